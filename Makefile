@@ -2,7 +2,7 @@
 # writes of an example; `make library` proves and builds the library for C and Python, and `make page`
 # makes of it a page that any browser opens; `make install PREFIX=..` puts the program, its man page
 # and, if it was built, the library in place, `make install-library PREFIX=..` the library alone, and
-# `make uninstall PREFIX=..` removes all of these; `make dist` makes a release, in dist; `make doc`
+# `make uninstall PREFIX=..` removes all of these; `make page dist` makes a release, in dist; `make doc`
 # writes docs/out, pages about the sources; `make test` proves and tests everything; `make bench` times
 # the program and, if it was built, the library; `make clean` removes what was built.
 
@@ -68,7 +68,9 @@ uninstall:
 	    $(addprefix $(DESTDIR)$(LIBDIR)/,libgamefile.a libgamefile.so libgamefile.so.1 \
 	    pkgconfig/gamefile.pc)
 
-dist: release/out/gamefile library/out/libgamefile.so.1
+# With the page, if it was built or is asked for too, as in `make page dist`.
+dist: release/out/gamefile library/out/libgamefile.so.1 \
+    $(if $(filter page,$(MAKECMDGOALS))$(wildcard page/out/index.html),page)
 	rm -rf dist
 	release/build dist
 

@@ -9,7 +9,7 @@
 A NAME is of a law, a function or a definition, if need be after its crate, as gf_canon::headline, or of a
 clause, as headline.placed. A part of a document between `<!--made: ..-->` and `<!---->` is made here: `lines
 NAMES - OTHERS` is how many lines the definitions have that NAMES rest on and OTHERS do not, and `files NAMES
-- OTHERS` lists their files. What the kit defines (Rattle.std) is not followed, nor how a value is kept
+- OTHERS` says this too, and lists their files. What the kit defines (Rattle.std) is not followed, nor how a value is kept
 in memory (`ghost view`): a type with a model stands for its `ghost Value`.
 """
 import html
@@ -463,14 +463,12 @@ class Reference(Sources):
     def made(self, words):
         """Gives the part of a document that these words ask for."""
         items = self.believed_by_names(words.split()[1:])
-        if words.startswith("lines "):
-            return str(sum(item.lines for item in items))
-        rows = "\n"
+        total, rows = sum(item.lines for item in items), ""
         for crate, kept in groupby(items, key=lambda item: item.crate):
-            rows += f"- {crate}: " + ", ".join(
-                f"[{file.stem}](../{file.relative_to(self.root)}) {sum(item.lines for item in group)}"
+            rows += f"- [{crate}](../crates/{crate}): " + ", ".join(
+                f"{file.name.removesuffix('.antt')} {sum(item.lines for item in group)}"
                 for file, group in groupby(kept, key=lambda item: item.file)) + ".\n"
-        return rows
+        return f"{total} lines:\n{rows}" if words.startswith("files ") else str(total)
 
     def remade(self, text):
         """Gives a document with its made parts as they should be."""

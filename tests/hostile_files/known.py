@@ -3,7 +3,7 @@ with an honest twin.
 """
 from functools import partial
 
-from .reduced import move_beside_chains, wide_tree
+from .reduced import wide_tree
 from .shapes import LARGEST, MOST_ROWS, many_players, paid_sets, sets_by_chance
 from .trees import Tree
 
@@ -35,9 +35,5 @@ KNOWN = {
         partial(toss_that_never_comes, 17, 7, -1),
     ),
     "a wide tree": (partial(wide_tree, 500, 8, 20, without=["reduced"]), MOST_ROWS),
-    "a move beside chains": (
-        partial(move_beside_chains, 256, 7, 100, 50),
-        partial(move_beside_chains, 256, 7, 100, 50, slow=False),
-    ),
     "many players paid at each demand": (partial(met_or_not, 20, 12), partial(many_players, 20, 300)),
 }

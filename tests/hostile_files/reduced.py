@@ -272,4 +272,8 @@ REDUCED = {
         partial(set_met_late, 800, 4, 20),
         partial(set_met_late, 800, 4, 20, late=False),
     ),
+    "a move beside chains": (
+        partial(move_beside_chains, 1024, 7, 100, 50),
+        partial(move_beside_chains, 1024, 7, 100, 50, slow=False),
+    ),
 }

@@ -11,7 +11,7 @@ pub use Rattle.gf_canon.specs.Judgement.{BeginsWithWord, IsInEitherFormat, IsJud
 pub use Rattle.gf_canon.specs.Judgement.{IsPlaced, IsRefused, IsRefusedWith, IsWithoutFormat}
 pub use Rattle.gf_canon.specs.Judgement.{MeansFile}
 pub use Rattle.gf_canon.specs.NamesAside.{IsTextBy, SameAsideNames, file_by, unnamed, unnamed_game}
-pub use Rattle.gf_canon.specs.NamesAside.{unnamed_node, unnamed_outcome, unnamed_set, unnamed_table}
+pub use Rattle.gf_canon.specs.NamesAside.{unnamed_node, unnamed_table}
 pub use Rattle.gf_canon.specs.NewNumbers.{IsOnlyRenumbering, NewNumbers, new_numbers}
 pub use Rattle.gf_canon.specs.NewNumbers.{new_outcome_number, new_set_number}
 pub use Rattle.gf_canon.specs.Pairs.{outcome_pairs, renumbering_pairs, set_numbers, set_pairs}
@@ -20,19 +20,18 @@ pub use Rattle.gf_canon.specs.declared.numbering.pairs.NumberPair.{NumberPair}
 pub use Rattle.gf_canon.specs.declared.numbering.pairs.NumberPair.TheVariants.{Outcome, Set}
 pub use Rattle.gf_canon.specs.declared.sameness.Names.{Names}
 pub use Rattle.gf_canon.specs.declared.sameness.Names.TheVariants.{Aside, Kept}
-pub use Rattle.gf_canon.specs.inner.NamedBy.{game_by, heading_by, name_by, node_by, outcome_by}
-pub use Rattle.gf_canon.specs.inner.NamedBy.{set_by, use_by}
+pub use Rattle.gf_canon.specs.inner.NamedBy.{game_by, heading_by, node_by}
 pub use Rattle.gf_canon.specs.inner.NumberMaps.{number_of_set, numbers_in, set_order}
 pub use Rattle.gf_canon.specs.inner.TextParts.{first_line, heading_text, mover_letter, node_line}
 pub use Rattle.gf_canon.specs.inner.TextParts.{number_then, plain_line, player_letter, player_then}
 pub use Rattle.gf_canon.specs.inner.TextParts.{tail_text, told_text}
-pub use Rattle.gf_fraction.proofs.AllElements.{all_images, all_weaker}
+pub use Rattle.gf_fraction.proofs.Offered.{all_images, all_weaker}
 pub use Rattle.gf_nfg.specs.Limit.{IsWithinLimit}
 pub use Rattle.gf_nfg.specs.Profiles.{numbers_from, positions}
 pub use Rattle.gf_nfg.specs.Table.{Table}
 pub use Rattle.gf_nfg.specs.TableText.{SpellsTable, lines_text, list_text, quoted, spaced}
-pub use Rattle.gf_nfg.specs.inner.TextParts.{Keeps, others_text}
-pub use Rattle.gf_token.proofs.Spelled.{same_tokens, spelled_once}
+pub use Rattle.gf_token.specs.TextLayout.{Keeps, others_text}
+pub use Rattle.gf_token.proofs.Offered.{same_tokens, spelled_once}
 pub use Rattle.gf_token.specs.Label.{label_of}
 pub use Rattle.gf_token.specs.LabelSpelling.{IsLabel}
 pub use Rattle.gf_token.specs.Place.{Begins, IsAccepted, IsAcceptedThrough, IsOffendingPlace}
@@ -48,23 +47,17 @@ pub use Rattle.gf_token.specs.declared.fault.What.TheVariants.{Format}
 pub use Rattle.gf_token.specs.declared.fault.Why.{Why}
 pub use Rattle.gf_token.specs.declared.fault.Why.TheVariants.{TooManyProfiles, Unterminated, Memory}
 pub use Rattle.gf_token.specs.declared.fault.Why.TheVariants.{Expected}
-pub use Rattle.gf_tree.proofs.lemmas.games.Canonical.{canonical_is_game, canonical_twice}
-pub use Rattle.gf_tree.proofs.lemmas.games.Canonical.{carries_to_canonical, outcome_numbers_carried}
-pub use Rattle.gf_tree.proofs.lemmas.games.Canonical.{same_by_canonical, set_numbers_carried}
-pub use Rattle.gf_tree.proofs.lemmas.games.Carried.{entry_used, in_keys}
-pub use Rattle.gf_tree.proofs.lemmas.games.Consistent.{flatten_map, map_entry, outcomes_in_order}
-pub use Rattle.gf_tree.proofs.lemmas.games.Consistent.{sets_in_order}
-pub use Rattle.gf_tree.proofs.lemmas.games.FirstUses.{AreDistinct, first_uses_distinct, found}
-pub use Rattle.gf_tree.proofs.lemmas.games.FirstUses.{of_filter, was_used}
-pub use Rattle.gf_tree.proofs.lemmas.games.MappedTrees.{held, map_tree_twice}
-pub use Rattle.gf_tree.proofs.lemmas.games.Members.{map_same, map_twice}
-pub use Rattle.gf_tree.proofs.lemmas.games.Renumberings.{outcome_number_positive, agreed_games}
-pub use Rattle.gf_tree.proofs.lemmas.games.Renumberings.{set_number_positive, Agree}
-pub use Rattle.gf_tree.proofs.lemmas.games.Same.{carried_outcomes, carried_sets, only_outcomes}
-pub use Rattle.gf_tree.proofs.lemmas.games.Same.{only_sets, same_back, same_itself, same_on}
-pub use Rattle.gf_tree.proofs.lemmas.games.TreesOnce.{same_set_equality, spells_one_game}
-pub use Rattle.gf_tree.proofs.lemmas.games.Uses.{Has, IsEquality, all_of_each, contains}
-pub use Rattle.gf_tree.proofs.lemmas.games.Uses.{each, has, has_map, has_place, mapped_from}
+pub use Rattle.gf_tree.proofs.Offered.{canonical_is_game, canonical_twice, carries_to_canonical}
+pub use Rattle.gf_tree.proofs.Offered.{outcome_numbers_carried, same_by_canonical}
+pub use Rattle.gf_tree.proofs.Offered.{set_numbers_carried, entry_used, in_keys, flatten_map}
+pub use Rattle.gf_tree.proofs.Offered.{map_entry, outcomes_in_order, sets_in_order, AreDistinct}
+pub use Rattle.gf_tree.proofs.Offered.{first_uses_distinct, found, of_filter, was_used, held}
+pub use Rattle.gf_tree.proofs.Offered.{map_tree_twice, map_same, map_twice, outcome_number_positive}
+pub use Rattle.gf_tree.proofs.Offered.{agreed_games, set_number_positive, Agree, carried_outcomes}
+pub use Rattle.gf_tree.proofs.Offered.{carried_sets, only_outcomes, only_sets, same_back}
+pub use Rattle.gf_tree.proofs.Offered.{same_itself, same_on, same_set_equality, spells_one_game}
+pub use Rattle.gf_tree.proofs.Offered.{Has, IsEquality, all_of_each, contains, each, has, has_map}
+pub use Rattle.gf_tree.proofs.Offered.{equal_headings, equal_nodes, has_place, mapped_from}
 pub use Rattle.gf_tree.specs.CanonicalGame.{canonical_game}
 pub use Rattle.gf_tree.specs.Consistent.{AreConsistent, Describes, IsConsistent, IsDescribed}
 pub use Rattle.gf_tree.specs.Consistent.{IsFirstUse}
@@ -87,6 +80,7 @@ pub use Rattle.gf_tree.specs.SameGame.{Carries, SameGame}
 pub use Rattle.gf_tree.specs.Spellable.{IsSpellable, IsSpellableAction, IsSpellableOutcome}
 pub use Rattle.gf_tree.specs.Spellable.{IsSpellableSet}
 pub use Rattle.gf_tree.specs.Told.{Heading, Told, heading_in}
+pub use Rattle.gf_tree.specs.Unnamed.{unnamed_file_node, unnamed_outcome, unnamed_set, use_by}
 pub use Rattle.std.proofs.Common.{Bool, Err, Global, IfErr, IfOk, List, MatchResult, None, Ok, OnOk}
 pub use Rattle.std.proofs.Common.{Option, Result, Some, Vec, ap, append_assoc, arith, cond, drop}
 pub use Rattle.std.proofs.Common.{eqb, false, filter, get_or, inl, inr, is_ok, length}

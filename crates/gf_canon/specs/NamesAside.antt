@@ -2,8 +2,8 @@
 use Rattle.std.specs.Prelude.{ℕ, List, [], map}
 use Rattle.gf_nfg.specs.Table.{Table}
 use Rattle.gf_tree.specs.Tree.{map_tree}
-use Rattle.gf_tree.specs.Description.{InformationSet, Outcome}
 use Rattle.gf_tree.specs.Game.{Node, Game}
+use Rattle.gf_tree.specs.Unnamed.{unnamed_outcome, unnamed_set}
 use Rattle.gf_canon.specs.CanonicalText.{IsTextOf}
 use Rattle.gf_canon.specs.GameFile.{GameFile, SameFile, canonical_text}
 use Rattle.gf_canon.specs.GameFile.GameFile.{extensive, strategic}
@@ -12,12 +12,6 @@ use Rattle.gf_canon.specs.declared.sameness.Names.TheVariants.{Kept, Aside}
 
 abbrev pub unnamed_node : Node → Node
 unnamed_node n = record n { name = [] }
-
-abbrev pub unnamed_set : InformationSet → InformationSet
-unnamed_set set = record set { name = [] }
-
-abbrev pub unnamed_outcome : Outcome → Outcome
-unnamed_outcome outcome = record outcome { name = [] }
 
 -- Title, comment, and the names of nodes, sets and outcomes are empty. Labels of players and
 -- actions stay.

@@ -84,7 +84,7 @@ pub fn same_is_equivalence()
 /// A renumbering carries one game to another exactly when title, comment and players are equal, the
 /// trees are equal node by node but for the numbers, and each set and each outcome has the
 /// description of the one with its new number.
-#[tactic(auto, using(gf_tree::proofs::lemmas::games::Canonical::carried_by_parts))]
+#[tactic(auto, using(gf_tree::proofs::Offered::carried_by_parts))]
 pub fn carried_by_parts()
     ensures { (r : Renumbering) (g h : Game) → IsGame g → IsGame h
         → Carries r g h ↔ CarriesParts r g h }
@@ -101,6 +101,7 @@ pub fn one_renumbering()
 
 /// Sets and outcomes that a renumbering carries to each other have the same place in order of first
 /// use.
+#[tactic(auto, using(gf_tree::proofs::Offered::set_numbers_carried, gf_tree::proofs::Offered::outcome_numbers_carried))]
 pub fn carried_in_order()
     ensures sets { (r : Renumbering) (g h : Game) → IsGame g → IsGame h → Carries r g h
         → (player : ℕ) → map (λ key. key.number) (player_keys h player)
@@ -110,6 +111,7 @@ pub fn carried_in_order()
 {}
 
 /// Sets and outcomes that a renumbering carries to each other have the same first-use number.
+#[tactic(auto, using(gf_tree::proofs::Offered::set_number_kept, gf_tree::proofs::Offered::outcome_number_kept))]
 pub fn first_use_numbers_stay()
     ensures sets { (r : Renumbering) (g h : Game) → Carries r g h → (player number : ℕ)
         → HasSet g player number → (first_use_numbers h).set player (r.set player number)

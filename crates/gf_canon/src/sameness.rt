@@ -15,17 +15,15 @@ ghost use Rattle.gf_canon.specs.inner.NamedBy.{are_kept};
 use crate::checking::{Unkept, check, tell_file};
 use crate::kind::{FileKind, kind_of};
 use crate::meaning::{Listed, Meaning, list_file};
-use crate::sameness::compare::same_name;
-use crate::sameness::comparison::Comparison;
+use crate::sameness::comparison::TreeComparison;
 use crate::sameness::walk::same_games;
 use gf_nfg::{ListedTable, Table, compare_nfg};
 use gf_token::Fault;
 use gf_tree::{ListedGame, tell_efg};
 use std::alloc::{AllocError, Global};
 
-pub(crate) mod compare;
 pub(crate) mod comparison;
-pub(crate) mod named;
+pub(crate) mod counted;
 pub(crate) mod walk;
 
 /// Why two files are not compared.
@@ -64,8 +62,7 @@ fn same_tables(alloc: Global, t: &Table, u: &Table, names: Names) -> Result<bool
         IsTrue answer ↔ SameBy names (strategic t.now) (strategic u.now)) }
 {
     Ok(
-        same_name(t.title(), u.title(), names)
-            && same_name(t.comment(), u.comment(), names)
+        (names == Names::Aside || t.title() == u.title() && t.comment() == u.comment())
             && t.plays_alike(alloc, u)?,
     )
 }
@@ -99,7 +96,7 @@ fn same_as_tree(alloc: Global, g: &ListedGame<'_>, b: &[u8], names: Names) -> Re
         × (IsTrue answer ↔ SameBy names (extensive g.now) y)) }
     ensures refused { IfErr result (IsRefusedWith b.now) }
 {
-    let mut comparison = Comparison::new(g, names);
+    let mut comparison = TreeComparison::new(g, names);
     match tell_file(alloc, b, &mut comparison) {
         Ok(FileKind::Tree) => Ok(comparison.is_same()),
         Ok(FileKind::Strategic) => Ok(false),

@@ -176,6 +176,22 @@ p \"\" 1 2 \"j\" { \"c\" } 2 \"y\" { 170141183460469231731687303715884105727 }
 t \"\" 3 \"z\" { 1 }
 ";
 
+/// A payoff of 5 where chance never leads, and one more below it.
+pub const UNLIKELY: &[u8] = b"EFG 2 R \"q\" { \"A\" }
+c \"\" 1 \"n\" { \"a\" 1 \"b\" 0 } 0
+t \"\" 1 \"x\" { 1 }
+c \"\" 2 \"k\" { \"e\" 1 } 2 \"y\" { 5 }
+t \"\" 1
+";
+
+/// The same, with the greatest number in place of 5.
+pub const UNLIKELY_AND_GREAT: &[u8] = b"EFG 2 R \"q\" { \"A\" }
+c \"\" 1 \"n\" { \"a\" 1 \"b\" 0 } 0
+t \"\" 1 \"x\" { 1 }
+c \"\" 2 \"k\" { \"e\" 1 } 2 \"y\" { 170141183460469231731687303715884105727 }
+t \"\" 1
+";
+
 /// A set that the player's own first move may rule out.
 pub const RULED_OUT: &[u8] = b"EFG 2 R \"r\" { \"A\" }
 p \"\" 1 1 \"i\" { \"a\" \"b\" } 0

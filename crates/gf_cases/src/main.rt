@@ -7,6 +7,7 @@ mod cuts;
 mod games;
 mod memory;
 mod numbers;
+mod payoffs;
 mod scripts;
 mod streams;
 mod texts;
@@ -37,6 +38,7 @@ fn run_groups(rt: &HostRuntime) -> io::Result<()> {
     let alloc = rt.alloc();
     tell(rt, "numbers", &numbers::numbers(alloc))?;
     tell(rt, "trees", &trees::trees(alloc))?;
+    tell(rt, "payoffs", &payoffs::payoffs(alloc))?;
     tell(rt, "texts", &texts::texts(alloc))?;
     tell(rt, "cuts", &cuts::cuts(alloc))?;
     tell(rt, "streams", &streams::streams(alloc))?;

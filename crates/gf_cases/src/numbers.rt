@@ -164,6 +164,18 @@ fn is_index(text: &[u8], expected: Result<u32, IndexFault>) -> bool {
     }
 }
 
+/// Fractions that are made of a whole number, and what is asked of fractions.
+fn wholes(cases: &mut Cases) {
+    let (reduced, one) = (fraction((-4, 6)), fraction((5, 5)));
+    cases.add("a negative fraction", reduced.is_negative());
+    cases.add("one that is not", !one.is_negative());
+    cases.add("a fraction above one", fraction((7, 6)).exceeds_one());
+    cases.add("one that is not", !one.exceeds_one());
+    let twelve = Fraction::whole(true, 12);
+    cases.add("a whole number", twelve == fraction((-12, 1)));
+    cases.add("one", Fraction::one() == one);
+}
+
 fn arithmetic(cases: &mut Cases) {
     for (a, b, expected) in &SUMS {
         cases.add(
@@ -197,6 +209,7 @@ fn texts(alloc: Global, cases: &mut Cases) {
 pub fn numbers(alloc: Global) -> Cases {
     let mut cases = Cases::new();
     arithmetic(&mut cases);
+    wholes(&mut cases);
     texts(alloc, &mut cases);
     cases
 }

@@ -1,10 +1,12 @@
-//! Canonical texts, sameness and tables, each on the call for it.
+//! Canonical texts, sameness, tables and the line of a fault, each on the call for it.
 
 use crate::cases::Cases;
 use crate::games::*;
 use gf_canon::{Names, canonical, same, same_by};
 use gf_form::{FormFault, table, table_reduced};
 use gf_nfg::{Table, write_nfg};
+use gf_run::{Counted, RunFault, Which, status, write_fault};
+use gf_token::{Fault, Span, Why};
 use gf_tree::{Game, read_efg};
 use std::alloc::Global;
 
@@ -125,6 +127,23 @@ fn tree_has_forms(alloc: Global, file: &[u8], form: &[u8], reduced: &[u8]) -> bo
     }
 }
 
+/// Whether the greatest place is written whole, and has its status.
+fn tells_a_fault(alloc: Global) -> bool {
+    let span = Span {
+        start: usize::MAX,
+        end: usize::MAX,
+    };
+    let fault = RunFault::Refused {
+        which: Which::First,
+        fault: Fault::at(span, Why::TooManyProfiles),
+    };
+    let mut line = Vec::new(alloc);
+    let told = write_fault(&fault, &mut Counted::new(&mut line));
+    told.is_ok()
+        && line.as_slice() == b"A: E18 at 18446744073709551615..18446744073709551615\n".as_slice()
+        && status(&fault) == 2
+}
+
 pub fn texts(alloc: Global) -> Cases {
     let mut cases = Cases::new();
     for (file, text) in &CANONICAL {
@@ -143,5 +162,6 @@ pub fn texts(alloc: Global) -> Cases {
     for (file, form, reduced) in &FORMS {
         cases.add("a table", tree_has_forms(alloc, file, form, reduced));
     }
+    cases.add("a fault", tells_a_fault(alloc));
     cases
 }

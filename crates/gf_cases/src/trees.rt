@@ -1,14 +1,15 @@
-//! The nodes of a game, the renumbering between two games, and the payoffs of tables.
+//! What a game holds, games by other numbers, and the payoffs of tables.
 
 use crate::cases::Cases;
 use crate::games::{
-    BONUS, FIVE, FIVE_BY_OTHER_NUMBERS, NULL_OUTCOME, NULL_OUTCOME_BY_PAYOFFS, ONE_SET, SELTEN,
-    TWO_SETS,
+    BONUS, FIVE, FIVE_BY_OTHER_NUMBERS, FIVE_TEXT, FIVE_TEXT_BY_OTHER_NUMBERS, NULL_OUTCOME,
+    NULL_OUTCOME_BY_PAYOFFS, ONE_SET, SELTEN, TWO_SETS,
 };
-use gf_canon::{Renumbering, renumbering};
+use gf_canon::{Renumbering, renumber, renumbering, write_efg};
+use gf_fraction::Fraction;
 use gf_nfg::read_nfg;
-use gf_tree::{Branch, Game, read_efg};
-use std::alloc::Global;
+use gf_tree::{Branch, Game, Step, read_efg};
+use std::alloc::{AllocError, Global};
 
 /// The outcome numbers of `BONUS` in prefix order.
 static OUTCOMES: [u32; 7] = [0, 1, 2, 0, 0, 0, 3];
@@ -64,6 +65,91 @@ fn nodes(alloc: Global, cases: &mut Cases) {
     cases.add("its outcomes", have_outcomes(&game, &OUTCOMES));
     for (way, children) in &CHILDREN {
         cases.add("its children", has_children(&game, way, *children));
+    }
+}
+
+fn has_set(game: &Game<'_>) -> bool {
+    match game.infoset(0, 9) {
+        Some((name, actions)) => name.raw() == b"n".as_slice() && actions.len() == 2,
+        None => false,
+    }
+}
+
+fn has_outcome(game: &Game<'_>) -> bool {
+    match (game.outcome(4), Fraction::new(1, 10)) {
+        (Some((name, payoffs)), Ok(tenth)) => {
+            name.raw() == b"w".as_slice() && payoffs == [tenth].as_slice()
+        }
+        _ => false,
+    }
+}
+
+fn has_root_and_end(game: &Game<'_>) -> bool {
+    let (Some(root), Some(last)) = (game.nodes().next(), game.nodes().last()) else {
+        return false;
+    };
+    root.step == Step::Chance { set: 9 }
+        && root.outcome == 0
+        && last.step == Step::Terminal
+        && last.outcome == 4
+        && game.len() == 7
+}
+
+/// Whether a branch has so many children, and this mover and outcome.
+fn is_branch(
+    branch: Branch<'_, '_>,
+    children: usize,
+    mover: Option<(u32, u32)>,
+    outcome: u32,
+) -> bool {
+    branch.children() == children
+        && branch.actions().len() == children
+        && branch.mover() == mover
+        && branch.outcome_position() == outcome
+}
+
+fn has_branches(game: &Game<'_>) -> bool {
+    let Some(second) = game.root().child(2) else {
+        return false;
+    };
+    match second.child_branches().next() {
+        Some(last) => is_branch(second, 1, Some((1, 2)), 1) && is_branch(last, 0, None, 1),
+        None => false,
+    }
+}
+
+fn holdings(alloc: Global, cases: &mut Cases) {
+    let Ok(game) = read_efg(alloc, FIVE) else {
+        cases.add("a tree", false);
+        return;
+    };
+    cases.add("its set", has_set(&game));
+    cases.add("its outcome", has_outcome(&game));
+    cases.add("its root and its last node", has_root_and_end(&game));
+    cases.add("its branches", has_branches(&game));
+}
+
+/// Whether a game was made and has this text by its own numbers.
+fn is_written_as(alloc: Global, made: Result<Game<'_>, AllocError>, text: &[u8]) -> bool {
+    let Ok(game) = made else {
+        return false;
+    };
+    let mut out = Vec::new(alloc);
+    write_efg(&game, &mut out).is_ok() && out.as_slice() == text
+}
+
+fn numbers_by_first_use(alloc: Global) -> bool {
+    match read_efg(alloc, FIVE_BY_OTHER_NUMBERS) {
+        Ok(game) => is_written_as(alloc, renumber(alloc, &game), FIVE_TEXT),
+        Err(_) => false,
+    }
+}
+
+/// Whether the tree by other numbers is written by these.
+fn keeps_numbers(alloc: Global) -> bool {
+    match read_efg(alloc, FIVE_BY_OTHER_NUMBERS) {
+        Ok(game) => is_written_as(alloc, Ok(game), FIVE_TEXT_BY_OTHER_NUMBERS),
+        Err(_) => false,
     }
 }
 
@@ -130,6 +216,9 @@ fn agreement(alloc: Global, cases: &mut Cases) {
 pub fn trees(alloc: Global) -> Cases {
     let mut cases = Cases::new();
     nodes(alloc, &mut cases);
+    holdings(alloc, &mut cases);
+    cases.add("numbers by first use", numbers_by_first_use(alloc));
+    cases.add("numbers that stay", keeps_numbers(alloc));
     new_numbers(alloc, &mut cases);
     cases.add("no renumbering", has_none(alloc, ONE_SET, TWO_SETS));
     cases.add("in the other order", has_none(alloc, TWO_SETS, ONE_SET));

@@ -142,6 +142,7 @@ fn of_text_before(refusal: &Refusal<'_>) -> Option<Mistake> {
     else {
         return None;
     };
+    // Only a token that is joined to the end of a text can show that this goes on too far.
     let is_joined = span.end == refusal.before.len();
     let is_other = refusal.found.is_empty() || matches!(refusal.found[0], b'{' | b'}' | b',');
     if !is_joined || is_other {

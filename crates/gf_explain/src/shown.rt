@@ -88,8 +88,8 @@ fn shown(character: char) -> char
     }
 }
 
-/// The columns that a character takes when it is shown: those of combining marks are 0, and those
-/// of wide characters 2.
+/// The columns that a character takes when it is shown by itself, as most terminals show it: those
+/// of combining marks are 0, and those of wide characters 2.
 fn columns(character: char) -> usize {
     shown(character).width().unwrap_or(1)
 }

@@ -24,24 +24,23 @@ pub use Rattle.gf_form.specs.declared.rows.chosen.Chosen.{Chosen}
 pub use Rattle.gf_form.specs.declared.rows.digits.Digit.{Digit}
 pub use Rattle.gf_form.specs.declared.rows.digits.Digits.{Digits}
 pub use Rattle.gf_form.specs.declared.rows.paths.Path.{Path}
-pub use Rattle.gf_form.specs.declared.rows.paths.Reached.{Reached}
 pub use Rattle.gf_form.specs.declared.rows.sums.Scale.{Scale}
 pub use Rattle.gf_form.specs.declared.rows.terms.Head.{Head}
 pub use Rattle.gf_form.specs.declared.rows.terms.Scaled.{Scaled}
 pub use Rattle.gf_form.specs.declared.rows.terms.Terms.{Terms}
-pub use Rattle.gf_form.specs.declared.rows.written.Asked.{Asked}
-pub use Rattle.gf_form.specs.declared.rows.written.Run.{Run}
+pub use Rattle.gf_form.specs.declared.rows.asked.Asked.{Asked}
+pub use Rattle.gf_form.specs.declared.rows.asked.Run.{Run}
 pub use Rattle.gf_form.specs.declared.strategies.counts.Counts.{Counts}
 pub use Rattle.gf_form.specs.inner.reduced.Firsts.{AreFirstsOf, IsPaidAt}
 pub use Rattle.gf_form.specs.inner.reduced.Levels.{ArePositive, IsLevel, is_left}
 pub use Rattle.gf_form.specs.inner.reduced.Levels.{can_be_met, IsChosen, IsChosenAt}
 pub use Rattle.gf_form.specs.inner.reduced.OwnDigits.{digits_from, digits_with, own_steps}
 pub use Rattle.gf_form.specs.inner.reduced.Relevance.{FindRelevance}
-pub use Rattle.gf_form.specs.inner.reduced.Search.{is_relevant_at, AreFirstBelow, AreLabelledTo}
-pub use Rattle.gf_form.specs.inner.reduced.Search.{HaveChoices, IsNextBelow, AreFoundTo, IsSearched}
-pub use Rattle.gf_form.specs.inner.reduced.Search.{actions_of, is_settled, choices_at, AreInTurn}
+pub use Rattle.gf_form.specs.inner.reduced.Search.{is_relevant_at, AreFirstBelow}
+pub use Rattle.gf_form.specs.inner.reduced.Search.{HaveChoices, AreFoundTo, IsSearched}
+pub use Rattle.gf_form.specs.inner.reduced.Search.{actions_of, is_settled, choices_at}
 pub use Rattle.gf_form.specs.inner.reduced.Search.{steps_to, IsToldBy, digit_at, numbered, IsFirst}
-pub use Rattle.gf_form.specs.inner.reduced.Search.{IsShown, IsFine, AreOwn}
+pub use Rattle.gf_form.specs.inner.reduced.Search.{IsFine, AreOwn}
 pub use Rattle.gf_form.specs.inner.reduced.Shown.{relevant_sets, shown}
 pub use Rattle.gf_form.specs.inner.reduced.Survey.{own_visit, place_among, visit_at, visit_handing}
 pub use Rattle.gf_form.specs.inner.reduced.Survey.{visits_by, visits_of}
@@ -53,7 +52,7 @@ pub use Rattle.gf_form.specs.inner.rows.TermLists.{AreOrdered, AreExactAt, ComeA
 pub use Rattle.gf_form.specs.inner.rows.TermLists.{scaled_at, number_at, EndsBelow, IsExactAt, Term}
 pub use Rattle.gf_form.specs.inner.rows.TermLists.{AreMerged, AreChosen, IsShaped, AreAlike, HasSum}
 pub use Rattle.gf_form.specs.inner.rows.TermLists.{IsSumOf, term_at, no_term, lowered, ComeTo, part}
-pub use Rattle.gf_form.specs.inner.rows.GameDigits.{AreDigitsOf, AreStepsOf, HasDigits}
+pub use Rattle.gf_form.specs.inner.rows.GameDigits.{AreDigitsOf, AreMadeOf, HasDigits}
 pub use Rattle.gf_form.specs.inner.rows.GameDigits.{digit_actions, actions_at}
 pub use Rattle.gf_form.specs.inner.rows.KeptNodes.{paid_reached, is_paid}
 pub use Rattle.gf_form.specs.inner.rows.ListedNodes.{AreTermsOf}
@@ -63,7 +62,6 @@ pub use Rattle.gf_form.specs.inner.rows.Descents.{own_step, stops_left, stop_at,
 pub use Rattle.gf_form.specs.inner.rows.Descents.{Entering, Handing, descent, descent_all, kept}
 pub use Rattle.gf_form.specs.inner.rows.Descents.{choosing, demanding, comes_by}
 pub use Rattle.gf_form.specs.inner.rows.ReachedNodes.{by_chance, is_sum_at, reached, followed}
-pub use Rattle.gf_form.specs.inner.rows.ReachedNodes.{path_to}
 pub use Rattle.gf_form.specs.inner.rows.ReachedNodes.{root_path, path_handing, is_personal, node_at}
 pub use Rattle.gf_form.specs.inner.rows.SettledRows.{Settles, SettlesAt, SettleRows, AreWritten}
 pub use Rattle.gf_form.specs.inner.rows.SettledRows.{asked_profiles}
@@ -80,29 +78,23 @@ pub use Rattle.gf_form.specs.inner.values.Rows.{ArePaid, at_place, row_at, IsRow
 pub use Rattle.gf_form.specs.inner.values.Rows.{paid_at_node}
 pub use Rattle.gf_form.specs.inner.values.Values.{value, chances_at, chance_value, child_value}
 pub use Rattle.gf_form.specs.inner.values.Values.{plus_of, times_of, value_over}
-pub use Rattle.gf_fraction.proofs.AllElements.{all_images, all_weaker, all_parts, all_both}
-pub use Rattle.gf_fraction.proofs.Chains.{◌then◌, back, plus_left, plus_right, times_left}
-pub use Rattle.gf_fraction.proofs.Chains.{times_right, plus_across}
-pub use Rattle.gf_fraction.proofs.ComputedArithmetic.{lowest_of-fraction, sum_is_computed}
-pub use Rattle.gf_fraction.proofs.ComputedArithmetic.{product_of-some, sum_of-some}
-pub use Rattle.gf_fraction.proofs.EqualRatios.{Decides-ratio}
-pub use Rattle.gf_fraction.proofs.Integers.{*ℤ_assoc, add-*ℤ, *ℤ-cancel_right, *ℤ-one}
-pub use Rattle.gf_fraction.proofs.LowestTerms.{one_fraction, mul_pos_right}
-pub use Rattle.gf_fraction.proofs.Products.{mul_above}
-pub use Rattle.gf_fraction.proofs.Rationals.{equal_refl, plus_both, plus_zero, plus_assoc}
-pub use Rattle.gf_fraction.proofs.Rationals.{times_comm, times_assoc, times_plus, times_zero}
-pub use Rattle.gf_fraction.proofs.Rationals.{times_one, IsAbove, plus_above, times_above}
-pub use Rattle.gf_fraction.proofs.Rationals.{total_above, plus_comm}
-pub use Rattle.gf_fraction.proofs.Sums.{IsLcm-from_gcd}
-pub use Rattle.gf_fraction.proofs.WholeNumbers.{whole_fraction}
-pub use Rattle.gf_fraction.specs.inner.Computed.{product_of, sum_of}
+pub use Rattle.gf_fraction.proofs.Offered.{all_images, all_weaker, all_parts, all_both, ◌then◌}
+pub use Rattle.gf_fraction.proofs.Offered.{back, plus_left, plus_right, times_left, times_right}
+pub use Rattle.gf_fraction.proofs.Offered.{plus_across, lowest_of-fraction, sum_is_computed}
+pub use Rattle.gf_fraction.proofs.Offered.{product_of-some, sum_of-some, Decides-ratio, *ℤ_assoc}
+pub use Rattle.gf_fraction.proofs.Offered.{add-*ℤ, *ℤ-cancel_right, *ℤ-one, one_fraction}
+pub use Rattle.gf_fraction.proofs.Offered.{mul_pos_right, mul_above, equal_refl, plus_both}
+pub use Rattle.gf_fraction.proofs.Offered.{plus_zero, plus_assoc, times_comm, times_assoc}
+pub use Rattle.gf_fraction.proofs.Offered.{times_plus, times_zero, times_one, IsAbove, plus_above}
+pub use Rattle.gf_fraction.proofs.Offered.{times_above, total_above, plus_comm, IsLcm-from_gcd}
+pub use Rattle.gf_fraction.proofs.Offered.{whole_fraction}
+pub use Rattle.gf_fraction.specs.Offered.{product_of, sum_of}
 pub use Rattle.gf_fraction.specs.Sum.{scaled_num, SumFits, AddsTo, IsLcm, IsSum}
 pub use Rattle.gf_fraction.specs.Product.{MultipliesTo, IsProduct}
 pub use Rattle.gf_fraction.specs.Ratio.{Ratio, IsFraction, whole, IsWithin, HasValue}
 pub use Rattle.gf_fraction.specs.Rational.{IsEqual, zero_ratio, one_ratio, times, total, plus}
-pub use Rattle.gf_nfg.proofs.lemmas.tables.NumbersInTurn.{length-numbers_from, get_or-numbers_from}
-pub use Rattle.gf_nfg.proofs.lemmas.tables.NumbersInTurn.{numbers_joined}
-pub use Rattle.gf_nfg.proofs.lemmas.tables.Profiles.{length-profiles, every_profile}
+pub use Rattle.gf_nfg.proofs.Offered.{length-numbers_from, get_or-numbers_from, numbers_joined}
+pub use Rattle.gf_nfg.proofs.Offered.{length-profiles, every_profile}
 pub use Rattle.gf_nfg.specs.Limit.{profile_limit}
 pub use Rattle.gf_nfg.specs.ProfilePlaces.{IsProfile}
 pub use Rattle.gf_nfg.specs.Profiles.{product, profiles, positions, numbers_from}
@@ -110,20 +102,12 @@ pub use Rattle.gf_nfg.specs.Table.{Table, IsTable}
 pub use Rattle.gf_nfg.specs.TableOfParts.{IsTableOf}
 pub use Rattle.gf_token.specs.Label.{label_of}
 pub use Rattle.gf_token.specs.Positions.{at_position}
-pub use Rattle.gf_tree.proofs.lemmas.games.Canonical.{carried_is_renumbered}
-pub use Rattle.gf_tree.proofs.lemmas.games.FirstUseNumbers.{same_tests}
-pub use Rattle.gf_tree.proofs.lemmas.games.FirstUses.{AreDistinct, was_used, is_used}
-pub use Rattle.gf_tree.proofs.lemmas.games.FirstUses.{first_uses_distinct, of_filter}
-pub use Rattle.gf_tree.proofs.lemmas.games.MappedTrees.{held}
-pub use Rattle.gf_tree.proofs.lemmas.games.Members.{map_twice, filter_of_map, map_same, in_left}
-pub use Rattle.gf_tree.proofs.lemmas.games.Members.{in_right, has_at}
-pub use Rattle.gf_tree.proofs.lemmas.games.PlayerSets.{sets_by_first_use}
-pub use Rattle.gf_tree.proofs.lemmas.games.Renumberings.{sets_apart}
-pub use Rattle.gf_tree.proofs.lemmas.games.Same.{same_back}
-pub use Rattle.gf_tree.proofs.lemmas.games.TreesOnce.{same_set_equality}
-pub use Rattle.gf_tree.proofs.lemmas.games.Uses.{has, Has, all_of_each, each, contains, mapped_from}
-pub use Rattle.gf_tree.proofs.lemmas.games.Uses.{has_map}
-pub use Rattle.gf_tree.proofs.lemmas.stores.Places.{at_index}
+pub use Rattle.gf_tree.proofs.Offered.{carried_is_renumbered, same_tests, AreDistinct, was_used}
+pub use Rattle.gf_tree.proofs.Offered.{is_used, first_uses_distinct, of_filter, held, map_twice}
+pub use Rattle.gf_tree.proofs.Offered.{filter_of_map, map_same, in_left, in_right, has_at}
+pub use Rattle.gf_tree.proofs.Offered.{sets_by_first_use, sets_apart, same_back, same_set_equality}
+pub use Rattle.gf_tree.proofs.Offered.{has, Has, all_of_each, each, contains, mapped_from, has_map}
+pub use Rattle.gf_tree.proofs.Offered.{at_index}
 pub use Rattle.gf_tree.specs.Branches.{game_of, tree_of}
 pub use Rattle.gf_tree.specs.BranchesLeft.{branches_given, branches_left, game_of_branches}
 pub use Rattle.gf_tree.specs.Description.{SetKey, InformationSet, IsSet, same_set, set_of, Action}

@@ -30,7 +30,7 @@ ghost use Rattle.gf_form.specs.WorkedForms.{overflowing, second, unlikely};
 /// Worked games: plays, strategic and reduced forms, and payoffs that fit although the bottom-up
 /// value does not, once because of a child with probability zero, and once because of the sum of
 /// the children, to which the node's own payoff is added last.
-#[tactic(auto, using(crate::proofs::lemmas::form::Worked::worked_forms))]
+#[tactic(auto, using(crate::proofs::lemmas::form::SameForms::worked_forms))]
 pub fn worked_forms()
     ensures games { AllByRecursion (λ g. IsGame g × IsSpellable g)
         (overflowing ∷ unlikely ∷ balancing ∷ ending ∷ contradicted ∷ []) }
@@ -134,7 +134,7 @@ pub fn same_games_same_reduced_form()
 /// A play follows the choices exactly when its players' moves are those. If the choices are
 /// actions, some play follows them, and all plays that do have probability one together: at a
 /// player's move they take the same child, and they part only where chance moves.
-#[tactic(auto, using(crate::proofs::lemmas::values::Following::followed_plays))]
+#[tactic(auto, using(crate::proofs::lemmas::values::Plays::followed_plays))]
 pub fn plays_follow_choices()
     ensures by_moves { (choices : SetKey → ℕ) (play : Play) → (follows choices play ≡ true)
         ↔ AllByRecursion

@@ -9,10 +9,10 @@ use crate::fault::EvalFault;
 use gf_fraction::Fraction;
 use std::alloc::AllocError;
 
+pub(crate) mod asked;
 pub(crate) mod chosen;
 pub(crate) mod descent;
 pub(crate) mod digits;
-pub(crate) mod full;
 pub(crate) mod listed;
 pub(crate) mod merge;
 pub(crate) mod pairs;
@@ -44,7 +44,7 @@ pub(crate) fn write_out(row: &mut Vec<Fraction>, players: usize) -> Result<(), A
 }
 
 /// Their sum, if it fits.
-#[tactic(auto, using(crate::proofs::lemmas::values::RowSums::sum_steps))]
+#[tactic(auto, using(crate::proofs::lemmas::values::ValuesComputed::sum_steps))]
 fn sum(x: Fraction, y: Fraction) -> Option<Fraction>
     requires x { IsFraction x }
     requires y { IsFraction y }
@@ -82,7 +82,7 @@ fn weighed(number: Fraction, chance: Fraction, other: Fraction) -> Option<Fracti
 }
 
 /// Adds a row times a probability to a sum.
-#[tactic(auto, using(crate::proofs::lemmas::values::RowSums::weigh_steps))]
+#[tactic(auto, using(crate::proofs::lemmas::values::ValuesComputed::weigh_steps))]
 pub(crate) fn weigh(
     sum: &mut Vec<Fraction>,
     chance: Fraction,
@@ -111,7 +111,7 @@ pub(crate) fn weigh(
 }
 
 /// Adds payoffs to a row.
-#[tactic(auto, using(crate::proofs::lemmas::values::RowSums::pay_steps))]
+#[tactic(auto, using(crate::proofs::lemmas::values::ValuesComputed::pay_steps))]
 pub(crate) fn pay(payoffs: &[Fraction], row: &mut Vec<Fraction>) -> Result<(), EvalFault>
     requires { (players : ℕ) × IsRow players payoffs.now × IsRow players row.old.items }
     ensures row { OnOk result ((players : ℕ) → IsRow players payoffs.now

@@ -11,7 +11,7 @@ ghost use Rattle.gf_form.specs.StrategicForm.{ArePayoffsAt, IsStrategicForm};
 ghost use Rattle.gf_form.specs.Strategies.{full_profiles};
 
 use crate::fault::FormFault;
-use crate::rows::full::full_rows;
+use crate::rows::profile::full_rows;
 use crate::strategies::counts::Counts;
 use crate::strategies::labels::all_labels;
 use gf_fraction::Fraction;

@@ -22,3 +22,4 @@ pub mod Products
 pub mod Rationals
 pub mod Chains
 pub mod SumsOnce
+pub mod Offered

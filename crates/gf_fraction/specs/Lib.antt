@@ -1,6 +1,7 @@
 pub mod NoNumber
 pub mod NumberSpelling
 pub mod NumberText
+pub mod Offered
 pub mod Product
 pub mod Ratio
 pub mod Rational

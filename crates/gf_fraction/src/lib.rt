@@ -3,8 +3,6 @@
 //! A fraction is kept in lowest terms, with a denominator of 1 to `M` and a numerator of at most
 //! `M` in size, where `M` is `2^127 - 1`. Arithmetic is exact or returns `Overflow`. No call except
 //! `Fraction::write` takes memory.
-//!
-//! The tests of these calls are in gf_tests: a crate with tests is proved a second time for them.
 #![tactic(auto)]
 
 mod arithmetic;

@@ -1,4 +1,3 @@
-pub mod limit
 pub mod places
 pub mod runs
 pub mod tables

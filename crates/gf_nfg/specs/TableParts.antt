@@ -1,5 +1,5 @@
 -- How the parts of a table are kept.
-use Rattle.std.specs.Prelude.{◌≡◌, ℕ, zero, suc, pos, ◌-◌, ◌*◌, ◌<◌, ◌≤◌, List, [], ◌++◌, ◌∷◌}
+use Rattle.std.specs.Prelude.{◌≡◌, ℕ, zero, suc, pos, ◌-◌, ◌*◌, ◌^◌, ◌<◌, ◌≤◌, List, [], ◌++◌, ◌∷◌}
 use Rattle.std.specs.Prelude.{take, drop, get_or, length, slice_get, replicate, unwrap_or, map}
 use Rattle.std.specs.List.{AllByRecursion, flat_map}
 use Rattle.gf_fraction.specs.Ratio.{IsFraction, Ratio, whole}
@@ -89,18 +89,14 @@ table_with names rows = record {
   entries = entries_of (profiles (map length names.strategies)) rows;
 }
 
--- the row with this number, from 1, among rows one after another; at 0 the row of zeros
-abbrev pub kept_row : ℕ → List Ratio → List Ratio → ℕ → List Ratio
-kept_row players payoffs zeros zero = zeros
-kept_row players payoffs zeros (suc k) = take players (drop (k * players) payoffs)
-
 -- nothing for each player
 abbrev pub no_pay : ℕ → List Ratio
 no_pay players = replicate players (whole (pos 0))
 
--- the row with this number; at 0 each player is paid zero
+-- the row with this number, from 1, among rows one after another; at 0 each player is paid zero
 abbrev pub row_of : ℕ → List Ratio → ℕ → List Ratio
-row_of players payoffs = kept_row players payoffs (no_pay players)
+row_of players payoffs zero = no_pay players
+row_of players payoffs (suc k) = take players (drop (k * players) payoffs)
 
 -- this many lists of this length, one after another
 abbrev pub rows_of : {A : Type 0} → ℕ → ℕ → List A → List (List A)
@@ -108,18 +104,36 @@ rows_of size zero items = []
 rows_of size (suc n) items = take size items ∷ rows_of size n (drop size items)
 
 -- the rows of this many profiles, which have these numbers; without numbers they come in turn
-abbrev pub kept_rows : ℕ → ℕ → List Ratio → List Ratio → List ℕ → List (List Ratio)
-kept_rows players count payoffs zeros [] = rows_of players count payoffs
-kept_rows players count payoffs zeros (k ∷ numbers) =
-    map (kept_row players payoffs zeros) (k ∷ numbers)
+abbrev pub kept_rows : ℕ → ℕ → List Ratio → List ℕ → List (List Ratio)
+kept_rows players count payoffs [] = rows_of players count payoffs
+kept_rows players count payoffs (k ∷ numbers) = map (row_of players payoffs) (k ∷ numbers)
 
--- a number for each profile, below a bound: profiles with the same number have the same row, and
--- each number has a row
-pub record AreShared (rows : List (List Ratio)) (numbers : List ℕ) (players : ℕ)
-    (payoffs zeros : List Ratio) (bound : ℕ) : Type 0 where
-  pub rows_are : rows ≡ map (kept_row players payoffs zeros) numbers
-  pub below : AllByRecursion (λ number. number < bound) numbers
-  pub kept : (number : ℕ) → number < bound → number * players ≤ length payoffs
+-- there is a row for each profile, in turn or with its number
+abbrev pub HasRows : ℕ → ℕ → List Ratio → List ℕ → Type 0
+HasRows players count payoffs [] = length payoffs ≡ count * players
+HasRows players count payoffs (k ∷ numbers) =
+    (outcomes : ℕ) × (length payoffs ≡ outcomes * players)
+    × (length (k ∷ numbers) ≡ count) × AllByRecursion (λ n. n ≤ outcomes) (k ∷ numbers)
+
+-- so many rows, with no payoffs after them
+pub record AreFull (players count : ℕ) (payoffs : List Ratio) : Type 0 where
+  pub full : length payoffs ≡ count * players
+  pub few : count < 2 ^ 62
+
+-- the rows with these numbers, or, without numbers, all after the first one
+abbrev pub chosen_rows : List (List Ratio) → List ℕ → List (List Ratio)
+chosen_rows rows [] = drop 1 rows
+chosen_rows rows (k ∷ numbers) = map (λ n. get_or rows n []) (k ∷ numbers)
+
+-- they are so many, and there is a row with each number
+pub record AreNumbered (count : ℕ) (rows : List (List Ratio)) (numbers : List ℕ) : Type 0 where
+  pub counted : length (chosen_rows rows numbers) ≡ count
+  pub below : AllByRecursion (λ n. n < length rows) numbers
+
+-- these have such numbers among rows
+pub record AreShared (all rows : List (List Ratio)) (numbers : List ℕ) : Type 0 where
+  pub rows_are : all ≡ map (λ n. get_or rows n []) numbers
+  pub below : AllByRecursion (λ n. n < length rows) numbers
 
 -- these are the names and rows of a table that a file within the limit of profiles can hold
 pub record IsHeld (names : Names) (rs : List (List Ratio)) : Type 0 where
@@ -138,12 +152,6 @@ pub record AreParts (names : Names) (payoffs : List Ratio) : Type 0 where
   pub fractions : AllByRecursion IsFraction payoffs
   pub spelled : AreSpellings (names.title ∷ names.comment
       ∷ (names.players ++ flat_map (λ own. own) names.strategies))
-
--- there is a row for each profile, in turn or with its number
-abbrev pub HasRows : ℕ → ℕ → List Ratio → List ℕ → Type 0
-HasRows players count payoffs [] = length payoffs ≡ count * players
-HasRows players count payoffs (k ∷ numbers) = (length (k ∷ numbers) ≡ count)
-    × AllByRecursion (λ number. number * players ≤ length payoffs) (k ∷ numbers)
 
 -- ---- profiles
 

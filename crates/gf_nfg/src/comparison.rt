@@ -12,13 +12,13 @@ ghost use Rattle.gf_nfg.specs.Table.{Table as table, rows};
 ghost use Rattle.gf_nfg.specs.TableText.{SpellsTable};
 ghost use Rattle.gf_nfg.specs.inner.ToldTable.{HasToldTable};
 
+use crate::heading::Heading;
+use crate::listed::ListedTable;
+use crate::parts::Parts;
 use crate::read::tell_nfg;
-use crate::reader::receive::{Kept, Receive, Version};
+use crate::receive::{Kept, Receive, Version};
 use crate::table::Table;
 use crate::table::agree::{same_heading, same_kept_rows};
-use crate::table::heading::Heading;
-use crate::table::listed::ListedTable;
-use crate::table::parts::Parts;
 use crate::table::payoffs_in_turn::{PayoffsInTurn, same_left};
 use gf_fraction::Fraction;
 use gf_token::Fault;

@@ -1,22 +1,24 @@
 //! Gambit strategic files: their tables, their reader and their canonical text.
-//!
-//! The tests of these calls are in gf_tests: a crate with tests is proved a second time for them.
 #![tactic(auto)]
 
 mod comparison;
+mod heading;
 pub mod laws;
 mod limit;
+mod listed;
+mod parts;
 mod read;
 mod reader;
+mod receive;
 mod table;
 mod text;
 
 pub use crate::comparison::compare_nfg;
 pub use crate::limit::ProfileCount;
+pub use crate::listed::ListedTable;
 pub use crate::read::{check_nfg, list_nfg, read_nfg};
 pub use crate::table::Table;
 pub use crate::table::labels::Labels;
-pub use crate::table::listed::ListedTable;
 pub use crate::text::canonical::canonical_nfg;
 pub use crate::text::pieces::TextPieces;
 pub use crate::text::table_text::{TextAndPayoffs, text_of};

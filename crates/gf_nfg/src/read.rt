@@ -8,12 +8,12 @@ ghost use Rattle.gf_nfg.specs.inner.ToldTable.{HasToldTable};
 ghost use Rattle.gf_nfg.specs.Limit.{IsWithinLimit};
 ghost use Rattle.gf_nfg.specs.Judgement.{IsJudged};
 
+use crate::heading::Heading;
+use crate::listed::{ListedTable, Listing};
+use crate::parts::Parts;
 use crate::reader::Reader;
-use crate::reader::receive::{Kept, Receive, Unkept};
+use crate::receive::{Kept, Receive, Unkept};
 use crate::table::Table;
-use crate::table::heading::Heading;
-use crate::table::listed::{ListedTable, Listing};
-use crate::table::parts::Parts;
 use gf_token::Fault;
 use std::alloc::Global;
 

@@ -13,16 +13,14 @@ ghost use Rattle.gf_nfg.specs.Position.Position.{FlatPayoffs, Format, InOutcomes
 ghost use Rattle.gf_nfg.specs.inner.ReaderState.{HasCounts, HasToldAll, StandsAt, Telling, answer};
 ghost use Rattle.gf_nfg.specs.inner.ReaderState.{body_answer, content_in, labels_of};
 ghost use Rattle.gf_nfg.specs.inner.Told.{told_heading};
-ghost use Rattle.gf_nfg.specs.declared.reader.receive.Version.TheVariants as version;
+ghost use Rattle.gf_nfg.specs.declared.receive.Version.TheVariants as version;
 
 mod body;
 mod heading;
-pub(crate) mod readings;
-pub(crate) mod receive;
 mod strategies;
 
-use crate::reader::receive::{Receive, Version};
-use crate::table::heading::Heading;
+use crate::heading::Heading;
+use crate::receive::{Receive, Version};
 use gf_token::{Cursor, Fault, Label, Span, TextToken, Why};
 use std::alloc::Global;
 

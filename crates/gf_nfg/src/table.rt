@@ -26,11 +26,8 @@ use std::marker::Model;
 
 pub(crate) mod agree;
 pub(crate) mod classes;
-pub(crate) mod heading;
 pub(crate) mod labels;
-pub(crate) mod listed;
 pub(crate) mod names;
-pub(crate) mod parts;
 pub(crate) mod payoffs_in_turn;
 pub(crate) mod pieces;
 pub(crate) mod profile;

@@ -1,14 +1,13 @@
 //! The canonical text of a file, written while the file is read.
 
-ghost use Rattle.std.specs.Prelude.{◌≡◌, ◌+◌, ◌<◌, ◌≤◌, [], OnErr, OnOk, ◌++◌, ◌∷◌};
-ghost use Rattle.std.specs.Prelude.{vec_capacity, vec_len};
-ghost use Rattle.gf_fraction.specs.NumberText.{number_text};
+ghost use Rattle.std.specs.Prelude.{◌≡◌, ◌++◌, [], OnOk};
 ghost use Rattle.gf_nfg.specs.inner.Meaning.{names_in};
 ghost use Rattle.gf_nfg.specs.inner.ReaderState.{HasCounts, content_in};
 ghost use Rattle.gf_nfg.specs.inner.TextParts.{heading_text, names_by};
 
-use crate::reader::receive::{Kept, Receive, Version};
-use crate::table::heading::Heading;
+use crate::heading::Heading;
+use crate::receive::{Kept, Receive, Version};
+use crate::text::payoffs::write_payoff;
 use crate::text::write::write_heading;
 use gf_fraction::Fraction;
 use std::alloc::{AllocError, Global};
@@ -67,19 +66,6 @@ fn write_told(heading: &Heading<'_>, named: bool, out: &mut Vec<u8>) -> Result<(
     write_heading(&names, named, out)
 }
 
-/// Appends a payoff, and a byte after it.
-#[inline(always)]
-pub(crate) fn write_payoff(payoff: Fraction, end: u8, out: &mut Vec<u8>) -> Result<(), AllocError>
-    ensures text { OnOk result
-        (out.new.items ≡ out.old.items ++ (number_text payoff ++ end ∷ [])) }
-    ensures full { OnErr result (vec_capacity out.old < vec_len out.old + 81) }
-    ensures capacity { vec_capacity out.old ≤ vec_capacity out.new }
-{
-    payoff.write(out)?;
-    out.push(end)?;
-    Ok(())
-}
-
 impl<'a> Receive<'a> for Text {
     ghost use Rattle.std.specs.Prelude.{◌≡◌, ◌≤◌, [], ⊤, vec_capacity, vec_len};
     ghost use Rattle.gf_nfg.specs.inner.ToldText.{HasText};
@@ -121,13 +107,7 @@ impl<'a> Receive<'a> for Text {
             self.kept.payoffs.push(payoff)?;
             return Ok(());
         }
-        if self.left > 1 {
-            write_payoff(payoff, b' ', &mut self.text)?;
-            self.left -= 1;
-        } else {
-            write_payoff(payoff, b'\n', &mut self.text)?;
-            self.left = self.width;
-        }
+        self.left = write_payoff(payoff, self.width, self.left, &mut self.text)?;
         Ok(())
     }
 

@@ -1,7 +1,7 @@
 -- What holds for the value or for the error of a result.
-use Rattle.std.proofs.Common.{◌≡◌, Result, Ok, Err, IfErr, IsErrAnd, OnErr, ap, sym, subst}
+use Rattle.std.proofs.Common.{◌≡◌, Result, Ok, Err, IfErr, IsErrAnd, MatchResult, OnErr, ap, sym, subst}
 use Rattle.std.specs.Prelude.{⊤}
-use Rattle.gf_run.specs.Rewritten.{without_cause}
+use Rattle.gf_run.specs.CollectionRun.{without_cause}
 use Rattle.gf_run.specs.declared.collections.rewrite.Failed.{Failed}
 use Rattle.gf_run.specs.declared.fault.RunFault.{RunFault}
 
@@ -15,6 +15,12 @@ pub IfErr-only : {T E : Type 0} (r : Result T E) (only : E) (P : E → Type 0)
     → IsErrAnd r (λ e. e ≡ only) → P only → IfErr r P
 IfErr-only (Ok x) only P is holds = tt
 IfErr-only (Err e) only P is holds = subst P (sym is) holds
+
+-- the same where something holds for a value too
+pub only_error : {T E : Type 0} (r : Result T E) (only : E) (P : T → Type 0) (Q : E → Type 0)
+    → IsErrAnd r (λ e. e ≡ only) → Q only → MatchResult r P Q
+only_error (Ok x) only P Q is holds = absurd is
+only_error (Err e) only P Q is holds = subst Q (sym is) holds
 
 -- a result that is this error
 pub is_error : {T E : Type 0} (r : Result T E) (e : E) → IsErrAnd r (λ x. x ≡ e) → r ≡ Err e

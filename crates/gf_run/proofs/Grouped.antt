@@ -1,6 +1,6 @@
 -- How a file is put into the group of its hash.
-use Rattle.std.proofs.Common.{length, get_or, filter, false, subst, arith, Bool, true, cond, List}
-use Rattle.std.proofs.Common.{◌++◌, refl, ◌≡◌, suc, ◌+◌, ◌<◌, ◌≤◌, not, ◌∷◌, map, set, sym, ◌∙◌, []}
+use Rattle.std.proofs.Common.{length, get_or, false, subst, arith, Bool, true, cond, List}
+use Rattle.std.proofs.Common.{◌++◌, refl, ◌≡◌, suc, ◌+◌, ◌<◌, ◌≤◌, ◌∷◌, map, set, sym, ◌∙◌, []}
 use Rattle.std.proofs.Common.{inl, inr, ap, ℕ}
 use Rattle.std.proofs.lemmas.Bool.{both_ways}
 use Rattle.std.proofs.lemmas.Bool.Decides.{Decides-eqb}
@@ -10,24 +10,14 @@ use Rattle.std.proofs.lemmas.Slice.Eq.{slice_eq-Decides}
 use Rattle.std.specs.List.{list_any, position_or_len}
 use Rattle.std.specs.Prelude.{◌⊎◌}
 use Rattle.gf_tree.specs.FiniteMap.{first_uses}
-use Rattle.gf_tree.proofs.lemmas.games.FirstUses.{AreDistinct, first_uses_distinct, is_used}
-use Rattle.gf_tree.proofs.lemmas.games.Uses.{Has, IsEquality}
+use Rattle.gf_tree.proofs.Offered.{AreDistinct, Has, IsEquality, first_uses_distinct, is_used}
+use Rattle.gf_tree.proofs.Offered.{known_more, map_same, map_twice, more_known, used_before, was_used}
 use Rattle.indexmap.specs.IndexSet.{insert_key}
 use Rattle.gf_run.specs.Duplicates.{HashedFile, IsKeptOf, KeptNames, hashes_of, having, names_of}
 use Rattle.gf_run.specs.Duplicates.{same_hash}
 
 pub same_hash_equality : IsEquality same_hash
 same_hash_equality a b = slice_eq-Decides Decides-eqb a b (same_hash a b) refl
-
-map_same : {X Y : Type 0} (f g : X → Y) → ((x : X) → f x ≡ g x) → (xs : List X)
-    → map f xs ≡ map g xs
-map_same f g same [] = refl
-map_same f g same (x ∷ xs) = rw (same x) (ap (λ l. g x ∷ l) (map_same f g same xs))
-
-pub map_of_map : {X Y Z : Type 0} (f : Y → Z) (g : X → Y) (xs : List X)
-    → map f (map g xs) ≡ map (λ x. f (g x)) xs
-map_of_map f g [] = refl
-map_of_map f g (x ∷ xs) = ap (λ l. f (g x) ∷ l) (map_of_map f g xs)
 
 next : {X : Type 0} (x : List X) (xs : List (List X)) (p : ℕ) (d : List X) (n : X)
     → set (x ∷ xs) (1 + p) (get_or (x ∷ xs) (1 + p) d ++ n ∷ []) ≡ x ∷ set xs p
@@ -43,46 +33,29 @@ module _ {K : Type 0} (same : K → K → Bool) (equality : IsEquality same) whe
       by true f = absurd (both_ways (same k a) e ((equality k a).1 (sym ((equality a k).0 f))))
       by false f = f
 
-  -- ---- first uses, with one more use
+  -- the test finds what a list has
+  finds : (ks : List K) (k : K) → Has ks k → list_any (same k) ks ≡ true
+  finds [] k m = absurd m
+  finds (a ∷ ks) k (inl e) = rw ((equality k a).1 (sym e)) refl
+  finds (a ∷ ks) k (inr m) = grind (arith, finds ks k m)
 
-  any_of_filter : (a k : K) → same k a ≡ false → (xs : List K)
-      → list_any (same k) (filter (λ x. not (same a x)) xs) ≡ list_any (same k) xs
-  any_of_filter a k apart [] = refl
-  any_of_filter a k apart (x ∷ xs) =
-      by (same a x) refl (same k x) refl (any_of_filter a k apart xs)
-    where
-      by : (b : Bool) → same a x ≡ b → (c : Bool) → same k x ≡ c
-          → list_any (same k) (filter (λ y. not (same a y)) xs) ≡ list_any (same k) xs
-          → list_any (same k) (filter (λ y. not (same a y)) (x ∷ xs)) ≡ list_any (same k) (x ∷ xs)
-      by true e true f more = absurd (both_ways (same k a) apart
-          ((equality k a).1 ((equality k x).0 f ∙ sym ((equality a x).0 e))))
-      by true e false f more = rw (e, f) more
-      by false e true f more = rw (e, f) refl
-      by false e false f more = rw (e, f) more
-
+  -- first uses, with one more use
   pub first_uses_more : (ks : List K) (k : K)
       → first_uses same (ks ++ k ∷ []) ≡ insert_key same (first_uses same ks) k
-  first_uses_more [] k = refl
-  first_uses_more (a ∷ ks) k =
-      ap (λ us. a ∷ filter (λ x. not (same a x)) us) (first_uses_more ks k)
-      ∙ by (first_uses same ks) (same k a) refl (list_any (same k) (first_uses same ks)) refl
+  first_uses_more ks k = known_more same equality ks k
+      ∙ by (list_any (same k) ks) refl (list_any (same k) (first_uses same ks)) refl
     where
-      by : (us : List K) (b : Bool) → same k a ≡ b → (c : Bool) → list_any (same k) us ≡ c
-          → a ∷ filter (λ x. not (same a x)) (insert_key same us k)
-          ≡ insert_key same (a ∷ filter (λ x. not (same a x)) us) k
-      by us true e true f = rw (e, f) refl
-      by us true e false f =
-          rw (e, f, filter-append (λ x. not (same a x)) us (k ∷ []), same_sym a k true e)
-          (ap (λ l. a ∷ l) (append-nil (filter (λ x. not (same a x)) us)))
-      by us false e true f = rw (e, any_of_filter a k e us, f) refl
-      by us false e false f =
-          rw (
-            e,
-            any_of_filter a k e us,
-            f,
-            filter-append (λ x. not (same a x)) us (k ∷ []),
-            same_sym a k false e,
-          ) refl
+      by : (b : Bool) → list_any (same k) ks ≡ b → (c : Bool)
+          → list_any (same k) (first_uses same ks) ≡ c
+          → more_known same equality (list_any (same k) ks) (first_uses same ks) k
+          ≡ insert_key same (first_uses same ks) k
+      by true e true f = rw (e, f) refl
+      by true e false f = absurd (both_ways (list_any (same k) (first_uses same ks)) f
+          (finds (first_uses same ks) k
+          (is_used same equality ks k (used_before same equality ks k e))))
+      by false e true f = absurd (both_ways (list_any (same k) ks) e
+          (finds ks k (was_used same ks k (used_before same equality (first_uses same ks) k f))))
+      by false e false f = rw (e, f) refl
 
   -- ---- the place of a key
 
@@ -102,16 +75,7 @@ module _ {K : Type 0} (same : K → K → Bool) (equality : IsEquality same) whe
       by false e (inr h) = inr (rw e h.0, rw e (omega (arith, h.1)))
 
   pub none_has : (k : K) (ks : List K) → list_any (same k) ks ≡ false → Has ks k → ⊥
-  none_has k [] e h = h
-  none_has k (a ∷ ks) e (inl q) =
-      let yes : same k a ≡ true = (equality k a).1 (sym q) in
-      both_ways (list_any (same k) (a ∷ ks)) e (rw yes refl)
-  none_has k (a ∷ ks) e (inr m) = by (same k a) refl e (λ none. none_has k ks none m)
-    where
-      by : (b : Bool) → same k a ≡ b → list_any (same k) (a ∷ ks) ≡ false
-          → (list_any (same k) ks ≡ false → ⊥) → ⊥
-      by true f none more = both_ways (list_any (same k) (a ∷ ks)) none (rw f refl)
-      by false f none more = more (rw f at none)
+  none_has k ks e m = both_ways (list_any (same k) ks) e (finds ks k m)
 
   module _ {N : Type 0} (v : K → List N) (n : N) where
     pub none_at : (k : K) (ks : List K) → (Has ks k → ⊥)
@@ -186,15 +150,15 @@ names_by_more : (files : List HashedFile) (f : HashedFile) (hashes : List (List 
     → map (λ h. names_of (having files h) ++ cond (same_hash h f.hash) (f.name ∷ []) []) hashes
     ≡ map (λ h. names_of (having (files ++ f ∷ []) h)) hashes
 names_by_more files f hashes = sym (map_same (λ h. names_of (having (files ++ f ∷ []) h))
-    (λ h. names_of (having files h) ++ cond (same_hash h f.hash) (f.name ∷ []) [])
-    (each_more files f) hashes)
+    (λ h. names_of (having files h) ++ cond (same_hash h f.hash) (f.name ∷ []) []) hashes
+    (λ h m. each_more files f h))
 
 is_kept : (files : List HashedFile) (kept : KeptNames) (hashes : List (List ℕ))
     → kept.hashes ≡ hashes_of files → hashes ≡ hashes_of files
     → kept.names ≡ map (λ h. names_of (having files h)) hashes → IsKeptOf files kept
 is_kept files kept hashes is same names = record {
   hashes = is;
-  names = names ∙ sym (map_of_map names_of (having files) hashes)
+  names = names ∙ sym (map_twice names_of (having files) hashes)
       ∙ ap (λ (hs : List (List ℕ)). map names_of (map (having files) hs)) same;
 }
 
@@ -206,7 +170,7 @@ module _ (files : List HashedFile) (kept : KeptNames) (is : IsKeptOf files kept)
       ∙ sym (hashes_more files f)
 
   names_are : kept.names ≡ map (λ h. names_of (having files h)) kept.hashes
-  names_are = is.names ∙ map_of_map names_of (having files) (hashes_of files)
+  names_are = is.names ∙ map_twice names_of (having files) (hashes_of files)
       ∙ ap (λ (hs : List (List ℕ)). map (λ h. names_of (having files h)) hs) (sym is.hashes)
 
   as_many : length kept.names ≡ length kept.hashes

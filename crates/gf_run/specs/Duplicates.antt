@@ -1,7 +1,7 @@
 -- Which of the files that were read are the same game, and the text that names them.
-use Rattle.std.specs.Prelude.{◌≡◌, ℕ, Bool, nat_eq, nat_lt, List, [], ◌∷◌, length, map}
+use Rattle.std.specs.Prelude.{◌≡◌, ℕ, Bool, nat_eq, nat_lt, not, List, length, map}
 use Rattle.std.specs.Cmp.Lexicographic.{pointwise}
-use Rattle.std.specs.List.{Contains, filter, flat_map, join_by}
+use Rattle.std.specs.List.{Contains, filter, flat_map, join_by, list_any}
 use Rattle.gf_tree.specs.FiniteMap.{first_uses}
 use Rattle.gf_words.specs.declared.job.LineEnd.{LineEnd}
 use Rattle.gf_run.specs.NameText.{end_text, name_line}
@@ -46,6 +46,10 @@ has_two names = nat_lt 1 (length names)
 abbrev pub duplicates : List HashedFile → List (List (List ℕ))
 duplicates files = filter has_two (map names_of (groups_of files))
 
+-- whether no two files have one hash
+abbrev pub are_apart : List HashedFile → Bool
+are_apart files = not (list_any has_two (map names_of (groups_of files)))
+
 -- a line for each name
 abbrev pub name_lines : LineEnd → List (List ℕ) → List ℕ
 name_lines end names = flat_map (name_line end) names
@@ -53,16 +57,6 @@ name_lines end names = flat_map (name_line end) names
 -- the names of groups, with an empty line between two groups
 abbrev pub groups_text : LineEnd → List (List (List ℕ)) → List ℕ
 groups_text end groups = join_by (name_lines end) (end_text end) groups
-
--- the empty line before a group, unless the text so far is empty
-abbrev pub empty_line : LineEnd → List ℕ → List ℕ
-empty_line end [] = []
-empty_line end (byte ∷ text) = end_text end
-
--- the exit status if these are the groups of two files or more
-abbrev pub groups_status : List (List (List ℕ)) → ℕ
-groups_status [] = 0
-groups_status (group ∷ groups) = 1
 
 -- what is kept of files: their hashes, and for each hash the names of its files
 pub record KeptNames : Type 0 where

@@ -6,20 +6,21 @@ use Rattle.gf_nfg.specs.TableText.{table_text}
 use Rattle.gf_canon.specs.GameFile.{GameFile}
 use Rattle.gf_canon.specs.GameFile.GameFile.{extensive, strategic}
 use Rattle.gf_canon.specs.CanonicalText.{SpellsWithin}
-use Rattle.gf_canon.specs.Judgement.{IsRefusedWith}
 use Rattle.gf_form.specs.Forms as forms
 use Rattle.gf_form.specs.declared.fault.FormFault.{FormFault}
 use Rattle.gf_form.specs.declared.fault.FormFault.TheVariants as form
 use Rattle.gf_form.specs.declared.forms.Strategies.{Strategies}
-use Rattle.gf_run.specs.declared.fault.RunFault.{RunFault}
-use Rattle.gf_run.specs.declared.fault.RunFault.TheVariants.{Refused, Form, Memory}
-use Rattle.gf_run.specs.declared.fault.Which.TheVariants.{Only}
 
 -- why a file has no table; a file that is a table always has one
 abbrev pub IsFileWithoutForm : Strategies → GameFile → FormFault → Type 0
 IsFileWithoutForm strategies (extensive g) form.Memory = ⊥
 IsFileWithoutForm strategies (extensive g) fault = forms.IsWithoutForm strategies g fault
 IsFileWithoutForm strategies (strategic t) fault = ⊥
+
+-- why a valid file has no answer: its game has no table, or memory ran out
+abbrev pub IsFormFault : Strategies → GameFile → FormFault → Type 0
+IsFormFault strategies x form.Memory = Unit {0}
+IsFormFault strategies x fault = IsFileWithoutForm strategies x fault
 
 -- the form of a game, if nothing rules it out; for a table, the table itself
 abbrev pub IsTableOfFile : Strategies → GameFile → Table → Type 0
@@ -38,16 +39,3 @@ pub record IsFormText (strategies : Strategies) (bytes text : List ℕ) : Type 0
   pub table : Table
   pub is_form : IsTableOfFile strategies file table
   pub is_text : text ≡ table_text table
-
--- why a valid file has no answer: its game has no table, or memory ran out
-abbrev pub IsFormFault : Strategies → GameFile → RunFault → Type 0
-IsFormFault strategies x (Form fault) = IsFileWithoutForm strategies x fault
-IsFormFault strategies x Memory = Unit {0}
-IsFormFault strategies _ _ = ⊥
-
--- why bytes that were read whole have no answer: they are refused, or mean a file without one
-abbrev pub IsFaultOfBytes : Strategies → List ℕ → RunFault → Type 0
-IsFaultOfBytes strategies bytes (Refused which fault) =
-    (which ≡ Only) × IsRefusedWith bytes fault
-IsFaultOfBytes strategies bytes fault =
-    (x : GameFile) × SpellsWithin bytes x × IsFormFault strategies x fault

@@ -1,61 +1,111 @@
--- What a run over one input does.
-use Rattle.std.specs.Prelude.{◌≡◌, ℕ, Bool, List, Result, Ok, Err, ⊤}
-use Rattle.gf_canon.specs.Judgement.{IsRefusedWith}
+-- What a run does: it reads its inputs whole, and then writes the text that answers their bytes.
+use Rattle.std.specs.Prelude.{◌≡◌, ◌⊎◌, ℕ, Bool, true, false, List, Result, Ok, Err, ⊤, MatchResult}
+use Rattle.gf_canon.specs.GameFile.{SameFile}
 use Rattle.gf_canon.specs.NamesAside.{IsTextBy}
+use Rattle.gf_canon.specs.SameBy.{SameBy}
 use Rattle.gf_canon.specs.declared.kind.FileKind.{FileKind}
 use Rattle.gf_canon.specs.declared.sameness.Names.{Names}
+use Rattle.gf_canon.specs.declared.sameness.Names.TheVariants as names
 use Rattle.gf_form.specs.declared.forms.Strategies.{Strategies}
-use Rattle.gf_run.specs.FileKinds.{IsKindLine}
-use Rattle.gf_run.specs.FormText.{IsFaultOfBytes, IsFormText}
-use Rattle.gf_run.specs.HashText.{IsFaultOfFile}
+use Rattle.gf_run.specs.FormText.{IsFormText}
 use Rattle.gf_run.specs.Input.{IsNotRead, IsReadWhole}
-use Rattle.gf_run.specs.LineText.{IsLineOf}
+use Rattle.gf_run.specs.LineText.{IsHashOf, IsKindLine, IsLineOf}
+use Rattle.gf_run.specs.NoAnswer.{IsFaultOfBytes, IsFaultOfFile, IsFaultOfFiles, IsRefusal}
 use Rattle.gf_run.specs.Output.{IsWriteFault, IsWritten}
+use Rattle.gf_run.specs.SameText.{IsAnswer, IsLine, IsLineAndMap}
 use Rattle.gf_run.specs.Streams.{Reader, Writer}
 use Rattle.gf_run.specs.declared.collections.line.FileLine.{FileLine}
 use Rattle.gf_run.specs.declared.fault.RunFault.{RunFault}
-use Rattle.gf_run.specs.declared.fault.RunFault.TheVariants.{Refused, Write}
-use Rattle.gf_run.specs.declared.fault.Which.TheVariants.{Only}
+use Rattle.gf_run.specs.declared.fault.RunFault.TheVariants.{Write}
+use Rattle.gf_run.specs.declared.fault.Which.TheVariants.{Only, First, Second}
 
--- the bytes of the one input are refused with this fault
-abbrev pub IsRefusal : List ℕ → RunFault → Type 0
-IsRefusal bytes (Refused which fault) = (which ≡ Only) × IsRefusedWith bytes fault
-IsRefusal bytes fault = ⊥
+-- For an input, or for two: `IsRead` says that it was read whole, and that these are its bytes, and
+-- `IsUnread` that it was not, and why.
+module _ {X B A : Type 0} (IsRead : X → X → B → Type 0) (IsUnread : RunFault → X → X → Type 0)
+    (Does : B → Result A RunFault → Type 0) (Nothing : Type 0) where
+  pub data Reads (result : Result A RunFault) (x x' : X) : Type 0 where
+    -- it was read whole, and this was done with its bytes
+    read : (bytes : B) → IsRead x x' bytes → Does bytes result → Reads result x x'
+    -- it was not read whole, and nothing was done
+    unread : (fault : RunFault) → result ≡ Err fault → IsUnread fault x x' → Nothing
+        → Reads result x x'
 
--- `Answers` says which texts answer the bytes of an input, and `Refuses` why bytes have no answer.
-module _ {A R W : Type 0} (reader : Reader R) (writer : Writer W)
-    (Answers : A → List ℕ → List ℕ → Type 0) (Refuses : List ℕ → RunFault → Type 0) where
-  pub data Runs (result : Result A RunFault) (i i' : R) (o o' : W) : Type 0 where
-    -- the input was read whole, and the text that answers its bytes was written
-    answered : (answer : A) (bytes text : List ℕ) → result ≡ Ok answer
-        → IsReadWhole reader i i' bytes → Answers answer bytes text
-        → IsWritten writer o o' text → Runs result i i' o o'
-    -- so it was, but only a prefix of the text, and then the writer failed
-    cut_off : (answer : A) (bytes text : List ℕ) → result ≡ Err Write
-        → IsReadWhole reader i i' bytes → Answers answer bytes text
-        → IsWriteFault writer o o' text → Runs result i i' o o'
-    -- the input was not read whole, and nothing was asked of the output
-    unread : (fault : RunFault) → result ≡ Err fault → IsNotRead reader Only fault i i'
-        → o' ≡ o → Runs result i i' o o'
-    -- its bytes have no answer, and nothing was asked of the output
-    refused : (fault : RunFault) (bytes : List ℕ) → result ≡ Err fault
-        → IsReadWhole reader i i' bytes → Refuses bytes fault → o' ≡ o → Runs result i i' o o'
+-- `Answers` says which texts are the answer, and `Refuses` why there is none.
+module _ {A W : Type 0} (writer : Writer W) (Answers : A → List ℕ → Type 0)
+    (Refuses : RunFault → Type 0) where
+  pub data Writes (result : Result A RunFault) (o o' : W) : Type 0 where
+    -- the text was written
+    answered : (answer : A) (text : List ℕ) → result ≡ Ok answer → Answers answer text
+        → IsWritten writer o o' text → Writes result o o'
+    -- a prefix of it was written, and then the writer failed
+    cut_off : (answer : A) (text : List ℕ) → result ≡ Err Write → Answers answer text
+        → IsWriteFault writer o o' text → Writes result o o'
+    -- there is none, and nothing was asked of the output
+    refused : (fault : RunFault) → result ≡ Err fault → Refuses fault → o' ≡ o
+        → Writes result o o'
 
--- the runs
+-- ---- over one input
+
+-- its canonical text is hashed
+abbrev pub ReadsHash : {R : Type 0} → Reader R → Names → Result (List ℕ) RunFault → R → R → Type 0
+ReadsHash reader names = Reads (IsReadWhole reader) (IsNotRead reader Only)
+    (λ bytes result. MatchResult result (IsHashOf names bytes) (IsFaultOfFile bytes)) (Unit {0})
+
 module _ {R W : Type 0} (reader : Reader R) (writer : Writer W) where
+  abbrev pub Runs : {A : Type 0} → (A → List ℕ → List ℕ → Type 0) → (List ℕ → RunFault → Type 0)
+      → Result A RunFault → R → R → W → W → Type 0
+  Runs Answers Refuses result i i' o o' = Reads (IsReadWhole reader) (IsNotRead reader Only)
+      (λ bytes result. Writes writer (λ answer. Answers answer bytes) (Refuses bytes) result o o')
+      (o' ≡ o) result i i'
+
   -- `run_canon_by`
   abbrev pub RunsCanonBy : Names → Result ⊤ RunFault → R → R → W → W → Type 0
-  RunsCanonBy names = Runs reader writer (λ answer. IsTextBy names) IsRefusal
+  RunsCanonBy names = Runs (λ answer. IsTextBy names) IsRefusal
 
   -- `run_check`
   abbrev pub RunsCheck : Result FileKind RunFault → R → R → W → W → Type 0
-  RunsCheck = Runs reader writer IsKindLine IsRefusal
+  RunsCheck = Runs IsKindLine IsRefusal
 
   -- `run_table` and `run_table_reduced`
   abbrev pub RunsTable : Strategies → Result ⊤ RunFault → R → R → W → W → Type 0
-  RunsTable strategies =
-      Runs reader writer (λ answer. IsFormText strategies) (IsFaultOfBytes strategies)
+  RunsTable strategies = Runs (λ answer. IsFormText strategies) (IsFaultOfBytes strategies)
 
   -- `run_line`
   abbrev pub RunsLine : FileLine → List ℕ → Result Bool RunFault → R → R → W → W → Type 0
-  RunsLine line name = Runs reader writer (IsLineOf line name) IsFaultOfFile
+  RunsLine line name = Runs (IsLineOf line name) IsFaultOfFile
+
+-- ---- over two inputs
+
+-- the answer about two files: with their renumbering if it is asked for, or by names
+abbrev pub IsAnswerBy : Bool → Names → Bool → List ℕ → List ℕ → List ℕ → Type 0
+IsAnswerBy true names = IsAnswer SameFile IsLineAndMap
+IsAnswerBy false names = IsAnswer (SameBy names) IsLine
+
+module _ {R S W : Type 0} (first : Reader R) (second : Reader S) (writer : Writer W) where
+  -- both were read whole
+  abbrev pub AreReadWhole : R × S → R × S → List ℕ × List ℕ → Type 0
+  AreReadWhole old new bytes =
+      IsReadWhole first old.0 new.0 bytes.0 × IsReadWhole second old.1 new.1 bytes.1
+
+  -- the first was not, and nothing was asked of the second; or only the first was
+  abbrev pub AreNotRead : RunFault → R × S → R × S → Type 0
+  AreNotRead fault old new = (IsNotRead first First fault old.0 new.0 × (new.1 ≡ old.1))
+      ⊎ ((bytes : List ℕ) × IsReadWhole first old.0 new.0 bytes
+      × IsNotRead second Second fault old.1 new.1)
+
+  abbrev pub RunsTwo : Bool → Names → Result Bool RunFault → R → R → S → S → W → W → Type 0
+  RunsTwo map names result a a' b b' o o' = Reads AreReadWhole AreNotRead
+      (λ bytes result. Writes writer (λ same. IsAnswerBy map names same bytes.0 bytes.1)
+      (IsFaultOfFiles bytes.0 bytes.1) result o o') (o' ≡ o) result (a, b) (a', b')
+
+  -- `run_same`
+  abbrev pub RunsSame : Result Bool RunFault → R → R → S → S → W → W → Type 0
+  RunsSame = RunsTwo false names.Kept
+
+  -- `run_same_by`
+  abbrev pub RunsSameBy : Names → Result Bool RunFault → R → R → S → S → W → W → Type 0
+  RunsSameBy = RunsTwo false
+
+  -- `run_same_map`
+  abbrev pub RunsSameMap : Result Bool RunFault → R → R → S → S → W → W → Type 0
+  RunsSameMap = RunsTwo true names.Kept

@@ -1,6 +1,109 @@
 //! A fault of a run in words, and what the system says about it.
 
-pub mod cause;
-mod text;
+ghost use Rattle.std.specs.Prelude.{IfOk};
+ghost use Rattle.gf_explain.specs.Explained.{IsSaidAfter};
+ghost use Rattle.gf_run.specs.Reports.{IsExplained};
 
-pub use text::explanation;
+use crate::fault::RunFault;
+use crate::streams::last_error::LastError;
+use crate::texts::report::short_line_of;
+use gf_explain::{
+    Part, ShownText, form_explanation, push_line, refusal_explanation, said_after, shown_name,
+};
+use std::alloc::{AllocError, Global};
+use std::io;
+
+/// What the system says about a fault of an input or of the output.
+#[derive(Clone, Copy)]
+pub enum Cause {
+    /// Why the input could not be opened.
+    Opening(io::Error),
+    /// The last error of a read or a write, if there was one.
+    Transfer(Option<io::Error>),
+}
+
+impl Cause {
+    /// The error, if there is one.
+    pub fn error(&self) -> Option<io::Error> {
+        match self {
+            Cause::Opening(error) => Some(*error),
+            Cause::Transfer(error) => *error,
+        }
+    }
+}
+
+/// What the system says about a fault of a run over this source and this output.
+pub fn cause_of<S: LastError, W: LastError>(fault: &RunFault, source: &S, output: &W) -> Cause {
+    match fault {
+        RunFault::Write => Cause::Transfer(output.last_error()),
+        _ => cause_of_source(fault, source),
+    }
+}
+
+/// The same of a run that has no output.
+pub fn cause_of_source<S: LastError>(fault: &RunFault, source: &S) -> Cause {
+    Cause::Transfer(match fault {
+        RunFault::Read(_) => source.last_error(),
+        _ => None,
+    })
+}
+
+/// A line, what failed, and what the system says about that, if it says anything.
+fn failed(
+    alloc: Global,
+    line: &[u8],
+    words: &str,
+    name: &str,
+    error: &Option<io::Error>,
+) -> Result<Vec<u8>, AllocError>
+    ensures { IfOk result (λ text. IsSaidAfter line.now text.items) }
+{
+    let (words, name) = (Part::Shown(words.as_bytes()), Part::Shown(name.as_bytes()));
+    let mut text = ShownText::new(alloc);
+    match error {
+        Some(error) => {
+            let reason = error.to_string(alloc)?;
+            push_line(
+                &mut text,
+                &[
+                    words,
+                    name,
+                    Part::Shown(b": "),
+                    Part::Shown(reason.as_bytes()),
+                ],
+            )?;
+        }
+        None => push_line(&mut text, &[words, name])?,
+    }
+    said_after(alloc, line, &text)
+}
+
+/// A fault in words: for a refusal, where it is, the line of the fault without its input, what is
+/// wrong, the line of the file with marks under the place, and a hint; for any other fault, its line
+/// and a sentence.
+pub fn explanation(
+    alloc: Global,
+    fault: &RunFault,
+    cause: &Cause,
+    name: &str,
+    bytes: &[u8],
+) -> Result<Vec<u8>, AllocError>
+    ensures { IfOk result (λ text. IsExplained fault.now name.now bytes.now text.items) }
+{
+    let line = short_line_of(fault);
+    let line = line.as_slice();
+    match fault {
+        RunFault::Refused { fault, .. } => refusal_explanation(alloc, fault, name, bytes),
+        RunFault::Form(fault) => form_explanation(alloc, fault),
+        RunFault::Read(_) => {
+            let words = match cause {
+                Cause::Opening(_) => "cannot open ",
+                Cause::Transfer(_) => "cannot read ",
+            };
+            let called = shown_name(alloc, name)?;
+            failed(alloc, line, words, called.as_str(), &cause.error())
+        }
+        RunFault::Write => failed(alloc, line, "cannot write the output", "", &cause.error()),
+        RunFault::Memory => failed(alloc, line, "out of memory", "", &None),
+    }
+}

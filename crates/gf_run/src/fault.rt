@@ -1,10 +1,7 @@
 //! How a run may fail, and its exit status.
 
 ghost use Rattle.std.specs.Prelude.{◌≡◌};
-ghost use Rattle.gf_run.specs.FaultInput.{is_of_second};
-ghost use Rattle.gf_run.specs.FaultStatus.{answer_status, status_of};
-ghost use Rattle.gf_run.specs.FormFaults.{form_fault};
-ghost use Rattle.gf_run.specs.SameFaults.{fault_of};
+ghost use Rattle.gf_run.specs.Faults.{answer_status, fault_of, form_fault, is_of_second, status_of};
 ghost use Rattle.gf_run.specs.declared.fault.RunFault.TheVariants.{Memory, Refused, Write};
 ghost use Rattle.gf_run.specs.declared.fault.Which.TheVariants.{Only};
 

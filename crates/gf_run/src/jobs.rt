@@ -5,4 +5,5 @@ pub mod job;
 pub mod one_file;
 pub mod run;
 pub mod run_of_two;
+pub mod session;
 pub mod two_files;

@@ -1,6 +1,7 @@
 //! Readers and writers: what is asked of them, again after an interruption, and what they count.
 
 pub mod counted;
+pub mod erasing;
 pub mod kept;
 pub mod last_error;
 pub mod sink;

@@ -1,5 +1,6 @@
 //! What is written: the texts of answers, and the line of a fault.
 
+pub mod answer;
 pub mod comparison;
 pub mod game;
 pub mod joined;
@@ -7,4 +8,3 @@ pub mod name;
 pub mod renumbering;
 pub mod report;
 pub mod table;
-pub mod text;

@@ -3,7 +3,7 @@ use Rattle.std.proofs.Common.{List, ℕ, inl, inr, ◌≡◌, ◌∙◌, ◌∷�
 use Rattle.std.proofs.Common.{subst}
 use Rattle.std.proofs.lemmas.Int.{ints}
 use Rattle.gf_fraction.specs.Ratio.{Ratio}
-use Rattle.gf_fraction.proofs.ReadingBack.{same_fault}
+use Rattle.gf_fraction.proofs.Offered.{same_fault}
 use Rattle.gf_token.specs.Token.{Token}
 use Rattle.gf_token.specs.Token.Token.{Bare}
 use Rattle.gf_token.specs.declared.fault.Why.{Why}

@@ -7,7 +7,7 @@ use Rattle.std.specs.Char.{is_ascii_digit}
 use Rattle.std.specs.Str.Parse.{AllDigits, digits_value}
 use Rattle.std.proofs.lemmas.Bool.{and_parts}
 use Rattle.std.proofs.lemmas.Bool.Decides.{nat_tests}
-use Rattle.gf_fraction.proofs.SpelledIsFound.{ascii_from_digit, digit_from_ascii}
+use Rattle.gf_fraction.proofs.Offered.{ascii_from_digit, digit_from_ascii}
 use Rattle.gf_token.specs.Index.{IsDigits, IsIndex, ReadsIndex}
 use Rattle.gf_token.specs.NoIndex.{IsNoIndex}
 use Rattle.gf_token.specs.declared.index.IndexFault.{IndexFault}

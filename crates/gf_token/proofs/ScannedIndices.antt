@@ -8,7 +8,7 @@ use Rattle.std.proofs.Math.Nat.{pow-le-pow_right}
 use Rattle.std.proofs.lemmas.Bool.Decides.{nat_tests}
 use Rattle.std.proofs.lemmas.Int.Digits.{digits_more, digits_value_more, digits_value-lt}
 use Rattle.std.proofs.lemmas.List.{get_or-drop, length-drop, length-take-le}
-use Rattle.gf_fraction.proofs.SpelledIsFound.{digit_from_ascii}
+use Rattle.gf_fraction.proofs.Offered.{digit_from_ascii}
 use Rattle.gf_token.specs.Index.{ReadsIndex}
 
 -- a digit more

@@ -14,7 +14,7 @@ use Rattle.std.proofs.lemmas.List.{length-drop, length-take-le, take_rest}
 use Rattle.std.proofs.lemmas.List.Folds.{drop_split}
 use Rattle.gf_fraction.specs.Ratio.{Ratio, signed, whole}
 use Rattle.gf_fraction.specs.NumberSpelling.{IsNumber, IsSign}
-use Rattle.gf_fraction.proofs.WholeNumbers.{digits_spelled as whole_spelled, is_sign_of, sign_of}
+use Rattle.gf_fraction.proofs.Offered.{digits_spelled as whole_spelled, is_sign_of, sign_of}
 use Rattle.gf_token.specs.Byte.{is_bare, is_space}
 use Rattle.gf_token.specs.Index.{ReadsIndex}
 use Rattle.gf_token.specs.Token.{lexeme}

@@ -19,10 +19,8 @@ use Rattle.gf_fraction.specs.NumberSpelling.{IsNumber}
 use Rattle.gf_fraction.specs.NumberSpelling.IsPlain.{whole, pointed}
 use Rattle.gf_fraction.specs.NumberSpelling.HasShape.{plain, raised, fraction}
 use Rattle.gf_fraction.specs.declared.fraction.NumberFault.TheVariants.{NotANumber}
-use Rattle.gf_fraction.specs.inner.Computed.{number_of}
-use Rattle.gf_fraction.proofs.AllElements.{all_both, all_parts}
-use Rattle.gf_fraction.proofs.ComputedAnswers.{number_again}
-use Rattle.gf_fraction.proofs.ReadingBack.{written_is_read}
+use Rattle.gf_fraction.specs.Offered.{number_of}
+use Rattle.gf_fraction.proofs.Offered.{all_both, all_parts, number_again, written_is_read}
 
 bare_digit : (b : ℕ) → digit_value b < 10 → is_bare b ≡ true
 bare_digit b h = grind (arith, nat_tests)

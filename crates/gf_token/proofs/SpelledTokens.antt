@@ -1,7 +1,7 @@
 -- Each of the tokens that bytes spell can be spelled.
 use Rattle.std.proofs.Common.{arith, ℕ, List, [], ◌∷◌, ◌++◌, map}
 use Rattle.std.specs.List.{AllByRecursion}
-use Rattle.gf_fraction.proofs.AllElements.{all_parts}
+use Rattle.gf_fraction.proofs.Offered.{all_parts}
 use Rattle.gf_token.specs.Token.{Token, Lexeme}
 use Rattle.gf_token.specs.Token.Token.{Closing}
 use Rattle.gf_token.specs.LabelSpelling.{IsLabel}

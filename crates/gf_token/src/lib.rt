@@ -3,8 +3,6 @@
 //!
 //! The rules are those of the Gambit documentation, "Game representation formats", and, where that
 //! text leaves a choice, those of this project's profile.
-//!
-//! The tests of these calls are in gf_tests: a crate with tests is proved a second time for them.
 #![tactic(auto)]
 
 mod byte;

@@ -2,16 +2,14 @@
 pub mod AddsUp
 pub mod FoundSet
 pub mod GameParts
+pub mod Hashers
 pub mod KnownOutcomes
 pub mod Machine
-pub mod Numbers
 pub mod Probability
 pub mod ReadGame
 pub mod ReaderState
-pub mod Seeded
 pub mod Shares
 pub mod Skipped
-pub mod SmallNumbers
 pub mod Steps
 pub mod StoredOutcomes
 pub mod StoredSets

@@ -264,15 +264,6 @@ impl<'a> Game<'a> {
         skip(&self.nodes, at + 1, child)
     }
 
-    /// The place of the first node below the node at this place, if there is one.
-    pub(crate) fn place_below(&self, at: usize) -> usize
-        requires { at < length (subtrees self.now.tree) }
-        ensures { result ≡ at + 1 }
-    {
-        prove!(at < self.nodes.len());
-        at + 1
-    }
-
     /// The place after the subtree of the node at this place.
     pub(crate) fn place_after(&self, at: usize) -> usize
         requires { at < length (subtrees self.now.tree) }

@@ -1,11 +1,9 @@
 //! Gambit extensive files: the trees that they spell, and the games that they mean.
-//!
-//! The tests of these calls are in gf_tests: a crate with tests is proved a second time for them.
 #![tactic(auto)]
 
 mod game;
+mod hashers;
 pub mod laws;
-mod numbers;
 mod read;
 mod reader;
 

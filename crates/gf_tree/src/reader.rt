@@ -28,7 +28,7 @@ use crate::game::listed_game::ListedGame;
 use crate::game::outcomes::Outcomes;
 use crate::game::parts::Parts;
 use crate::game::sets::Sets;
-use crate::numbers::indexing::Indexing;
+use crate::hashers::Seed;
 use crate::reader::receive::Receive;
 use gf_token::{Cursor, Fault, Label, Span};
 use std::alloc::Global;
@@ -40,8 +40,8 @@ pub(crate) struct Reader<'a> {
     title: Label<'a>,
     comment: Label<'a>,
     players: Vec<Label<'a>>,
-    /// How numbers are found.
-    indexing: Indexing<'a>,
+    /// What the hashers of the maps begin with.
+    seed: Seed<'a>,
     sets: Sets<'a>,
     outcomes: Outcomes<'a>,
     /// How many nodes are still to come.
@@ -67,7 +67,7 @@ impl<'a> Reader<'a> {
             title: empty,
             comment: empty,
             players: Vec::new(alloc),
-            indexing: Indexing::of(input),
+            seed: Seed::of(input),
             sets: Sets::new(alloc),
             outcomes: Outcomes::new(alloc),
             due: 1,
@@ -114,7 +114,7 @@ impl<'a> Reader<'a> {
             title: self.title,
             comment: self.comment,
             players: self.players,
-            indexing: self.indexing,
+            seed: self.seed,
             sets: self.sets,
             outcomes: self.outcomes,
         };

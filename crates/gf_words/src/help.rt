@@ -32,7 +32,7 @@ Example:
 
 pub const FILE: &str = "The game file; standard input if none is named";
 
-pub const EXPLAIN: &str = "If it fails, explain what is wrong, and where";
+pub const EXPLAIN: &str = "Explain what is wrong, and where";
 
 pub const CANON: &str = "Write the canonical text of a game file";
 
@@ -42,23 +42,23 @@ pub const CANON_WRITE: &str = "Replace each file by its canonical text";
 
 pub const AFTER_CANON: &str = "\
 Writes the game as a game file in canonical form, so that two files of the same
-game become the same bytes. The layout is fixed, numbers are exact and in lowest
+game get the same text. The layout is fixed, numbers are exact and in lowest
 terms, and the information sets and outcomes of a tree are numbered 1, 2 and so
 on in order of first use.
 
 With --no-names, the title, the comment, and the names of nodes, information
 sets and outcomes are written empty. So two files that 'same --no-names' finds
-the same become the same bytes.
+the same get the same text.
 
 With --check, nothing is written but the names of files that differ from their
 canonical texts, and the status is 1 if there are any. With --write, each of
 these files is replaced by its canonical text, and a file that is refused stays
-as it is. A folder stands for the game files below it, as for hash.
+as it is. A folder means the game files in it and below it, as for hash.
 
 A file that breaks the format is refused: nothing is written, and standard error
 has one line, such as E4 at 40..43, with a code and the place in bytes from 0;
-with --check or --write, the line begins with the name of the file, and the run
-goes on. The status is 0, or 2 if a file is refused.
+with --check or --write, the line begins with the name of the file, and the
+other files are still read. The status is 0, or 2 if a file is refused.
 
 Examples:
   gamefile canon game.efg > canonical.efg
@@ -66,14 +66,14 @@ Examples:
 
 /// What is said of `canon` with `--check` and `--write`.
 pub const CHECK_AND_WRITE: &str = "\
-error: '--check' cannot stand beside '--write'
+error: '--check' cannot be used with '--write'
 
 For more information, try 'gamefile help canon'.
 ";
 
 /// What is said of `canon --write` without the names of files.
 pub const WRITE_TO_NOTHING: &str = "\
-error: '--write' needs the names of files, and standard input is none
+error: '--write' needs files: standard input cannot be replaced
 
 For more information, try 'gamefile help canon'.
 ";
@@ -87,7 +87,7 @@ For more information, try 'gamefile help canon'.
 
 /// What is said of `canon` with several files.
 pub const SEVERAL_TEXTS: &str = "\
-error: the texts of several files cannot be one: '--check' or '--write' is missing
+error: 'canon' writes the text of one file: for several, give '--check' or '--write'
 
 For more information, try 'gamefile help canon'.
 ";
@@ -100,14 +100,14 @@ refused: nothing is written, and standard error has one line, such as
 E4 at 40..43, with a code and the place in bytes from 0. The status is 0, or 2
 if the file is refused.
 
-Of several files, or a folder, each has a line after its name, such as
-game.efg: tree, or on standard error game.efg: E4 at 40..43, and the run goes
-on. The status is the worst of all files: 0, 2, 4 or 5. A folder stands for the
-game files below it, as for hash.
+With several files or a folder, each file has a line that begins with its name,
+such as game.efg: tree, or on standard error game.efg: E4 at 40..43, and the
+other files are still read. The status is the worst of all files: 0, 2, 4 or 5.
+A folder means the game files in it and below it, as for hash.
 
 With --explain, the line of a refusal begins with the file, the line and the
 column, and ends with what is wrong. The line of the file follows, with marks
-under the place, and perhaps a hint.
+under the place, and sometimes a hint.
 
 Examples:
   gamefile check game.nfg
@@ -125,14 +125,13 @@ written as canon writes it. Every file that canon refuses is refused.
 
 A tree with more than 1,048,576 profiles has no table, and standard error says
 'too many profiles'. Nor does a tree have one if its expected payoffs at some
-profile cannot be worked out within 127 bits; standard error names the first
-such profile, as in 'overflow at profile 2'. Nothing is written then, and the
+profile cannot be computed within 127 bits; standard error names the first such
+profile, as in 'overflow at profile 2'. Nothing is written then, and the
 status is 2.
 
 With --reduced, a strategy has * in place of an action at each information set
-that the player's own earlier choices keep out of reach, such as 1-*. Strategies
-that are then equal become one. The limit of profiles still counts all
-strategies.
+that the player's own earlier choices rule out, such as 1-*. Strategies that are
+then equal become one. The limit of profiles still counts all strategies.
 
 Example:
   gamefile table game.efg > game.nfg";
@@ -158,17 +157,17 @@ pub const HASH: &str = "Write a hash of each game file";
 pub const AFTER_HASH: &str = "\
 Writes one line for each file, as sha256sum does: the SHA-256 digest of its
 canonical text, two spaces, and its name. So files of the same game have the
-same hash. Standard input has the name '-'. As there, a name with a backslash or
-an end of line has it escaped, and its line begins with a backslash; with --zero
-nothing is escaped, and each line ends with NUL.
+same hash. Standard input has the name '-'. As sha256sum does, it escapes a
+backslash or an end of line in a name, and begins the line with a backslash;
+with --zero nothing is escaped, and each line ends with NUL.
 
-A folder stands for all files below it whose names end in .efg or .nfg, in upper
-or lower case, in the order of the bytes of their names, but for hidden ones.
-Links are followed, but no folder below it is visited twice.
+A folder means all files in it and below it whose names end in .efg or .nfg, in
+upper or lower case, except hidden ones, in the order of the bytes of their
+names. Links are followed, but no folder below it is visited twice.
 
 A file that is refused or cannot be read gets no line here, but one on standard
-error, such as game.efg: E4 at 40..43, and the run goes on. The status is the
-worst of all files: 0, 2, 4 or 5.
+error, such as game.efg: E4 at 40..43, and the other files are still read. The
+status is the worst of all files: 0, 2, 4 or 5.
 
 With --no-names, the hash is that of the text that 'canon --no-names' writes.
 With --files-from, FILE has a name on each line, and '-' is standard input.
@@ -177,7 +176,7 @@ Examples:
   gamefile hash games > hashes.txt
   find games -name '*.efg' -print0 | gamefile hash --files-from - -0";
 
-pub const DUPLICATES: &str = "Say which game files are the same game";
+pub const DUPLICATES: &str = "List game files that are the same game";
 
 pub const AFTER_DUPLICATES: &str = "\
 Writes the groups of two or more files that are the same game: a name on each
@@ -188,9 +187,9 @@ Files and folders are read, and names are written, as by 'hash', also with
 order of their first files.
 
 A file that is refused or cannot be read is in no group. Standard error has a
-line for it, such as game.efg: E4 at 40..43, and the run goes on. The status is
-0 if no two files are the same, and 1 if some are; if any file fails, the
-highest of 2, 4 and 5.
+line for it, such as game.efg: E4 at 40..43, and the other files are still read.
+The status is 0 if no two files are the same, and 1 if some are; if any file
+fails, the highest of 2, 4 and 5.
 
 With --no-names, files are the same if 'same --no-names' finds them so.
 
@@ -199,15 +198,15 @@ Example:
 
 pub const MAP: &str = "Also list which numbers correspond";
 
-pub const NO_NAMES: &str = "Ignore all texts but names of players and actions";
+pub const NO_NAMES: &str = "Ignore titles, comments and names, but not labels";
 
 pub const AFTER_SAME: &str = "\
 Writes same, with status 0, or different, with status 1. Two trees are the same
-if new numbers for the information sets and outcomes of one turn it into the
-other. Two tables are the same if their titles, comments, players, strategy
-labels and the payoffs at each profile agree. A tree and a table are never the
-same. If a file is refused or cannot be read, its line on standard error begins
-with A: or B: and the status is 2 or 4.
+if renumbering the information sets and outcomes of one gives the other. Two
+tables are the same if their titles, comments, players, strategy labels and the
+payoffs at each profile agree. A tree and a table are never the same. If a file
+is refused or cannot be read, its line on standard error begins with A: or B:
+and the status is 2 or 4.
 
 With --map, a line 'set P X Y' follows for each information set of player P (0
 is chance): X is its number in A, and Y its number in B. A line 'outcome X Y'

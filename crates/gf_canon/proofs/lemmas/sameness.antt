@@ -1,6 +1,5 @@
 pub mod ComparedTrees
 pub mod Files
-pub mod Lists
 pub mod NodesNamed
 pub mod Unnamed
 pub mod WalkedNodes

@@ -1,11 +1,11 @@
 pub mod ByNames
 pub mod Compared
+pub mod Fields
 pub mod FileOf
 pub mod OneFile
-pub mod Pieces
 pub mod PlainLines
 pub mod ReadsBack
+pub mod SaidFields
 pub mod Spellables
-pub mod TextPieces
 pub mod ToldFiles
 pub mod ToldTexts

@@ -1,4 +1,4 @@
--- The pieces of the text of a game, for the functions that append them.
+-- The parts of the text of a game, for the functions that append them.
 use Rattle.std.specs.Prelude.{ℕ, zero, suc, List, [], ◌∷◌, ◌++◌, map, codes, decimal}
 use Rattle.std.specs.Prelude.{Option, None, Some}
 use Rattle.std.specs.List.{flat_map}
@@ -7,7 +7,7 @@ use Rattle.gf_tree.specs.Description.{InformationSet, SetKey}
 use Rattle.gf_tree.specs.FileTree.{FileNode, Use}
 use Rattle.gf_tree.specs.Told.{Heading, Told}
 use Rattle.gf_canon.specs.GameText.{node_text}
-use Rattle.gf_canon.specs.inner.NamedBy.{name_by, node_by}
+use Rattle.gf_canon.specs.inner.NamedBy.{heading_by, node_by}
 use Rattle.gf_canon.specs.declared.sameness.Names.{Names}
 
 -- each followed by a space
@@ -15,14 +15,13 @@ abbrev pub spaced_out : List (List ℕ) → List ℕ
 spaced_out items = flat_map (λ item. item ++ 32 ∷ []) items
 
 -- the format, the title and the players
-abbrev pub first_line : List ℕ → List (List ℕ) → List ℕ
-first_line title players = spaced (codes "EFG" ∷ codes "2" ∷ codes "R" ∷ quoted title
-    ∷ list_text (map quoted players) ∷ [])
+abbrev pub first_line : Heading → List ℕ
+first_line h = spaced (codes "EFG" ∷ codes "2" ∷ codes "R" ∷ quoted h.title
+    ∷ list_text (map quoted h.players) ∷ [])
 
 -- the lines before the nodes
-abbrev pub heading_text : List ℕ → List ℕ → List (List ℕ) → List ℕ
-heading_text title comment players =
-    lines_text (first_line title players ∷ quoted comment ∷ [] ∷ [])
+abbrev pub heading_text : Heading → List ℕ
+heading_text h = lines_text (first_line h ∷ quoted h.comment ∷ [] ∷ [])
 
 -- a node's line
 abbrev pub node_line : FileNode → List ℕ
@@ -58,6 +57,5 @@ plain_line name set outcome = mover_letter set ∷ 32 ∷ (quoted name ++ tail_t
 
 -- the lines of what was told, as far as names count
 abbrev pub told_text : Names → Heading → List Told → List ℕ
-told_text names heading told =
-    heading_text (name_by names heading.title) (name_by names heading.comment) heading.players
+told_text names heading told = heading_text (heading_by names heading)
     ++ flat_map (λ t. node_line (node_by names t.node)) told

@@ -35,7 +35,6 @@ impl Renumbering {
 
     /// The new number of an outcome, or `None` if the game has no such outcome. 0, the null
     /// outcome, stays 0.
-    // No edit: `Renumbering::set` has one, and proofs of gf_tests rely on this.
     #[tactic(auto, using(crate::proofs::lemmas::numbers::Kept::kept_outcome))]
     pub fn outcome(&self, number: u32) -> Option<u32>
         ensures { result ≡ new_outcome_number self.now number }

@@ -5,7 +5,7 @@ ghost use Rattle.gf_tree.specs.FileNodes.{file_nodes};
 ghost use Rattle.gf_tree.specs.CanonicalGame.{canonical_game};
 
 use crate::sameness::Names;
-use crate::sameness::compare::{same_heading, same_node};
+use crate::sameness::counted::{same_heading, same_node};
 use gf_tree::{FileNodes, ListedGame, NumberedNode, Receive, ToldHeading};
 use std::alloc::AllocError;
 
@@ -13,7 +13,7 @@ use std::alloc::AllocError;
 /// each other have the same first-use number, so each node is compared with one node, and nothing
 /// is searched for. This takes no memory.
 #[derive(Drop)]
-pub(crate) struct Comparison<'g, 'a> {
+pub(crate) struct TreeComparison<'g, 'a> {
     game: &'g ListedGame<'a>,
     /// The nodes of the game after as many as were told. After a difference it stays as it is.
     left: FileNodes<'g, 'a>,
@@ -22,15 +22,15 @@ pub(crate) struct Comparison<'g, 'a> {
     same: bool,
 }
 
-impl<'g, 'a> Comparison<'g, 'a> {
+impl<'g, 'a> TreeComparison<'g, 'a> {
     /// Nothing was told.
-    pub(crate) fn new(game: &'g ListedGame<'a>, names: Names) -> Comparison<'g, 'a>
+    pub(crate) fn new(game: &'g ListedGame<'a>, names: Names) -> TreeComparison<'g, 'a>
         ensures game { result.game.now ≡ game.entry.now }
         ensures names { result.names ≡ names }
         ensures left { result.left ≡ file_nodes (canonical_game game.entry.now) }
         ensures same { IsTrue result.same }
     {
-        Comparison {
+        TreeComparison {
             game,
             left: game.nodes_by_first_use(),
             names,
@@ -46,7 +46,7 @@ impl<'g, 'a> Comparison<'g, 'a> {
     }
 }
 
-impl<'g, 'a, 'b> Receive<'b> for Comparison<'g, 'a> {
+impl<'g, 'a, 'b> Receive<'b> for TreeComparison<'g, 'a> {
     ghost use Rattle.std.specs.Prelude.{◌≡◌, IsTrue};
     ghost use Rattle.gf_tree.specs.FileNodes.{file_nodes};
     ghost use Rattle.gf_tree.specs.CanonicalGame.{canonical_game};

@@ -4,7 +4,7 @@ ghost use Rattle.std.specs.Prelude.{◌≡◌, ◌++◌, ◌∷◌, [], OnErr, O
 ghost use Rattle.std.specs.List.{flat_map};
 ghost use Rattle.gf_fraction.specs.NumberText.{number_text};
 ghost use Rattle.gf_nfg.specs.TableText.{list_text, quoted};
-ghost use Rattle.gf_nfg.specs.inner.TextParts.{Keeps, others_text};
+ghost use Rattle.gf_token.specs.TextLayout.{Keeps, others_text};
 ghost use Rattle.gf_token.specs.Label.{label_of};
 ghost use Rattle.gf_tree.specs.Actions.{action_of, actions_of};
 ghost use Rattle.gf_tree.specs.FileNodeOf.{described_outcome, described_set};

@@ -1,17 +1,11 @@
 //! The lines of a text, written while a file is read.
 
-ghost use Rattle.std.specs.Prelude.{◌≡◌, ◌++◌, [], OnErr, OnOk};
-ghost use Rattle.gf_nfg.specs.inner.TextParts.{Keeps};
-ghost use Rattle.gf_tree.specs.FileNodeOf.{file_node_of};
-ghost use Rattle.gf_canon.specs.inner.NamedBy.{node_by};
-ghost use Rattle.gf_canon.specs.inner.TextParts.{node_line};
-ghost use Rattle.gf_canon.specs.declared.sameness.Names.TheVariants.{Aside};
+ghost use Rattle.std.specs.Prelude.{◌≡◌, []};
 
 use crate::sameness::Names;
-use crate::sameness::named::{name_by, unnamed};
 use crate::text::node_line::write_node;
 use crate::text::write::write_heading;
-use gf_tree::{FileNode, NumberedNode, Receive, ToldHeading};
+use gf_tree::{NumberedNode, Receive, ToldHeading};
 use std::alloc::{AllocError, Global};
 
 /// The text of a file that is being told.
@@ -37,16 +31,6 @@ impl Lines {
     }
 }
 
-/// Appends the line of a node without its names.
-#[inline(never)]
-fn write_unnamed(node: FileNode<'_, '_>, out: &mut Vec<u8>) -> Result<(), AllocError>
-    ensures text { OnOk result
-        (out.new.items ≡ out.old.items ++ node_line (node_by Aside (file_node_of node.entry))) }
-    ensures kept { OnErr result (Keeps out.old.items out.new.items) }
-{
-    write_node(&unnamed(node), out)
-}
-
 impl<'a> Receive<'a> for Lines {
     ghost use Rattle.std.specs.Prelude.{◌≡◌, []};
     ghost use Rattle.gf_canon.specs.inner.TextParts.{told_text};
@@ -58,20 +42,12 @@ impl<'a> Receive<'a> for Lines {
 
     fn heading(&mut self, heading: ToldHeading<'_, 'a>) -> Result<(), AllocError> {
         self.text.reserve(self.room)?;
-        write_heading(
-            name_by(heading.title, self.names),
-            name_by(heading.comment, self.names),
-            heading.players,
-            &mut self.text,
-        )
+        write_heading(self.names.of_heading(heading), &mut self.text)
     }
 
-    #[tactic(auto, using(crate::proofs::lemmas::texts::ToldTexts::told_lines))]
+    #[tactic(auto, using(crate::proofs::lemmas::texts::ToldTexts::one_line_more))]
     #[inline(always)]
     fn node(&mut self, node: NumberedNode<'_, 'a>) -> Result<(), AllocError> {
-        match self.names {
-            Names::Kept => write_node(&node.file_node(), &mut self.text),
-            Names::Aside => write_unnamed(node.file_node(), &mut self.text),
-        }
+        write_node(&self.names.of_node(node.file_node()), &mut self.text)
     }
 }

@@ -2,7 +2,7 @@
 
 ghost use Rattle.std.specs.Prelude.{◌≡◌, ◌++◌, ◌∷◌, [], OnErr, OnOk, decimal, option_map};
 ghost use Rattle.gf_nfg.specs.TableText.{spaced};
-ghost use Rattle.gf_nfg.specs.inner.TextParts.{Keeps, others_text};
+ghost use Rattle.gf_token.specs.TextLayout.{Keeps, others_text};
 ghost use Rattle.gf_token.specs.Label.{label_of};
 ghost use Rattle.gf_tree.specs.FileNodeOf.{described_set, file_node_of, outcome_use_of, set_use_of};
 ghost use Rattle.gf_canon.specs.GameText.{described_fields, mover_fields, result_fields};
@@ -61,7 +61,7 @@ fn write_set_use(set: SetUse<'_, '_>, out: &mut Vec<u8>) -> Result<(), AllocErro
 }
 
 /// Appends who moves at a node with this name, and at which set.
-#[tactic(auto, using(crate::proofs::lemmas::texts::TextPieces::mover_joined))]
+#[tactic(auto, using(crate::proofs::lemmas::texts::Fields::mover_joined))]
 #[inline(always)]
 fn write_step(
     name: Label<'_>,
@@ -102,7 +102,7 @@ fn write_result(outcome: Option<OutcomeUse<'_, '_>>, out: &mut Vec<u8>) -> Resul
 
 /// Appends the line of a node that describes its set or its outcome.
 #[inline(never)]
-#[tactic(auto, using(crate::proofs::lemmas::texts::TextPieces::step_joined))]
+#[tactic(auto, using(crate::proofs::lemmas::texts::Fields::step_joined))]
 fn write_described(node: &FileNode<'_, '_>, out: &mut Vec<u8>) -> Result<(), AllocError>
     ensures text { OnOk result
         (out.new.items ≡ out.old.items ++ node_line (file_node_of node.now)) }

@@ -2,7 +2,7 @@
 
 ghost use Rattle.std.specs.Prelude.{◌≡◌, ◌++◌, ◌∷◌, ◌≤◌, ◌+◌, ℕ, List, OnErr, OnOk};
 ghost use Rattle.std.specs.Prelude.{decimal, drop, length, option_map};
-ghost use Rattle.gf_nfg.specs.inner.TextParts.{Keeps};
+ghost use Rattle.gf_token.specs.TextLayout.{Keeps};
 ghost use Rattle.gf_token.specs.Label.{label_of};
 ghost use Rattle.gf_tree.specs.FileNodeOf.{set_use_of};
 ghost use Rattle.gf_canon.specs.inner.TextParts.{mover_letter, plain_line, tail_text};

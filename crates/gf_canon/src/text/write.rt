@@ -1,52 +1,45 @@
 //! The text of a game by its own numbers: Gambit's extensive format, laid out by this project's
 //! profile.
 
-ghost use Rattle.std.specs.Prelude.{◌≡◌, ◌++◌, OnErr, OnOk, map};
-ghost use Rattle.gf_nfg.specs.inner.TextParts.{Keeps};
-ghost use Rattle.gf_token.specs.Label.{label_of};
+ghost use Rattle.std.specs.Prelude.{◌≡◌, ◌++◌, OnErr, OnOk};
+ghost use Rattle.gf_token.specs.TextLayout.{Keeps};
 ghost use Rattle.gf_tree.specs.IsGame.{IsGame};
 ghost use Rattle.gf_tree.specs.GameOf.{SpellsGame};
 ghost use Rattle.gf_tree.specs.Spellable.{IsSpellable};
+ghost use Rattle.gf_tree.specs.Told.{heading_of};
 ghost use Rattle.gf_canon.specs.GameText.{game_text};
 ghost use Rattle.gf_canon.specs.inner.TextParts.{first_line, heading_text};
 
 use crate::text::braces::write_labels;
 use crate::text::node_line::write_node;
-use gf_token::{Label, write_label};
-use gf_tree::Game;
+use gf_token::write_label;
+use gf_tree::{Game, ToldHeading};
 use std::alloc::AllocError;
 
 /// Appends the format, the title and the players.
-fn write_first_line(
-    title: Label<'_>,
-    players: &[Label<'_>],
-    out: &mut Vec<u8>,
-) -> Result<(), AllocError>
-    ensures text { OnOk result (out.new.items
-        ≡ out.old.items ++ first_line (label_of title.entry) (map label_of players.now)) }
+fn write_first_line(heading: ToldHeading<'_, '_>, out: &mut Vec<u8>) -> Result<(), AllocError>
+    ensures text { OnOk result
+        (out.new.items ≡ out.old.items ++ first_line (heading_of heading.entry)) }
     ensures kept { OnErr result (Keeps out.old.items out.new.items) }
 {
     out.extend_from_slice(b"EFG 2 R ")?;
-    write_label(title, out)?;
+    write_label(heading.title, out)?;
     out.push(b' ')?;
-    write_labels(players, out)
+    write_labels(heading.players, out)
 }
 
 /// Appends everything before the nodes.
 pub(crate) fn write_heading(
-    title: Label<'_>,
-    comment: Label<'_>,
-    players: &[Label<'_>],
+    heading: ToldHeading<'_, '_>,
     out: &mut Vec<u8>,
 ) -> Result<(), AllocError>
-    ensures text { OnOk result (out.new.items ≡ out.old.items
-        ++ heading_text (label_of title.entry) (label_of comment.entry)
-        (map label_of players.now)) }
+    ensures text { OnOk result
+        (out.new.items ≡ out.old.items ++ heading_text (heading_of heading.entry)) }
     ensures kept { OnErr result (Keeps out.old.items out.new.items) }
 {
-    write_first_line(title, players, out)?;
+    write_first_line(heading, out)?;
     out.push(b'\n')?;
-    write_label(comment, out)?;
+    write_label(heading.comment, out)?;
     out.extend_from_slice(b"\n\n")?;
     Ok(())
 }
@@ -58,7 +51,7 @@ fn write_text(g: &Game<'_>, out: &mut Vec<u8>) -> Result<(), AllocError>
     ensures spellable { IsSpellable g.now }
     ensures kept { OnErr result (Keeps out.old.items out.new.items) }
 {
-    write_heading(g.title(), g.comment(), g.players(), out)?;
+    write_heading(g.heading(), out)?;
     for node in g.file_nodes() {
         write_node(&node.file_node(), out)?;
     }

@@ -45,48 +45,70 @@ pub fn write_table(alloc: Global) -> Came {
     came_of(answer, out.as_slice(), SELTEN_TEXT)
 }
 
-fn has_parts(t: &Table) -> bool {
-    let payoffs = [Fraction::zero(), Fraction::whole(false, 3)];
-    t.payoffs(&[2, 2]) == Some(payoffs.as_slice())
-        && (t.players(), t.profiles(), t.strategies(1)) == (2, 6, Some(3))
-}
-
-/// The table with these three strategies of its first player, of which the second has two, made of
-/// its parts.
+/// The table with these strategies of its first player, of which the second has two, made of its
+/// parts.
 fn made<'a>(
     alloc: Global,
     title: Label<'a>,
-    player: Label<'a>,
-    labels: [Label<'a>; 3],
+    comment: Label<'a>,
+    players: [Label<'a>; 2],
+    strategies: [Label<'a>; 3],
 ) -> Result<Table, Came> {
-    let (one, two, three) = (labels[0], labels[1], labels[2]);
+    let (row, column) = (players[0], players[1]);
+    let (one, two, three) = (strategies[0], strategies[1], strategies[2]);
     let (Ok(first), Ok(second)) = (vec![in alloc; one, two, three], vec![in alloc; one, two]) else {
         return Err(Came::NotMade);
     };
-    let rows = [1, 1, 0, 2, 0, 2, 1, 1, 0, 3, 2, 0].map(|n| Fraction::whole(false, n));
+    let payoffs = [1, 1, 0, 2, 0, 2, 1, 1, 0, 3, 2, 0].map(|n| Fraction::whole(false, n));
     match Table::new(
         alloc,
         title,
-        title,
-        &[player, player],
+        comment,
+        &[row, column],
         &[first, second],
-        &rows,
+        &payoffs,
     ) {
         Ok(table) => Ok(table),
         Err(AllocError) => Err(Came::OutOfMemory),
     }
 }
 
-pub fn make_table(alloc: Global) -> Came {
-    let (Some(title), Some(one), Some(two)) = (
+/// The table of Selten.
+fn made_table(alloc: Global) -> Result<Table, Came> {
+    let (Some(title), Some(comment), Some(row), Some(column)) = (
         Label::new(b"Selten"),
-        Label::new(b"1"),
-        Label::new(b"2"),
+        Label::new(b""),
+        Label::new(b"Player 1"),
+        Label::new(b"Player 2"),
     ) else {
-        return Came::Wrong;
+        return Err(Came::Wrong);
     };
-    match made(alloc, title, one, [one, two, title]) {
-        Ok(table) if has_parts(&table) => Came::Right,
+    let (Some(one), Some(two), Some(three)) = (Label::new(b"1"), Label::new(b"2"), Label::new(b"3"))
+    else {
+        return Err(Came::Wrong);
+    };
+    made(alloc, title, comment, [row, column], [one, two, three])
+}
+
+fn has_names(t: &Table) -> bool {
+    let (Some(column), Some(three)) = (t.player(2), t.strategy(1, 3)) else {
+        return false;
+    };
+    t.title().raw() == b"Selten".as_slice()
+        && t.comment().raw().is_empty()
+        && column.raw() == b"Player 2".as_slice()
+        && three.raw() == b"3".as_slice()
+}
+
+fn has_payoffs(t: &Table) -> bool {
+    let payoffs = [Fraction::zero(), Fraction::whole(false, 3)];
+    t.payoffs(&[2, 2]) == Some(payoffs.as_slice())
+        && (t.players(), t.profiles(), t.strategies(1)) == (2, 6, Some(3))
+}
+
+pub fn make_table(alloc: Global) -> Came {
+    match made_table(alloc) {
+        Ok(table) if has_names(&table) && has_payoffs(&table) => Came::Right,
         Ok(_) => Came::Wrong,
         Err(came) => came,
     }

@@ -1,4 +1,2 @@
-pub mod FormMade
 pub mod Forms
 pub mod SameForms
-pub mod Worked

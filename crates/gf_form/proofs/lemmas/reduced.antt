@@ -3,6 +3,7 @@ pub mod FirstStrategies
 pub mod LevelsChosen
 pub mod ReducedForms
 pub mod Reducing
+pub mod RowsGiven
 pub mod SearchStarts
 pub mod Searches
 pub mod VisitsFound

@@ -1,9 +1,4 @@
-pub mod Alike
+pub mod Plays
 pub mod BottomUp
-pub mod Denominators
-pub mod Following
-pub mod NodesListed
-pub mod PaidRows
-pub mod RowSums
 pub mod ValuesComputed
 pub mod Walks

@@ -2,6 +2,7 @@ pub mod Firsts
 pub mod Levels
 pub mod OwnDigits
 pub mod Relevance
+pub mod Rows
 pub mod Search
 pub mod Shown
 pub mod Survey

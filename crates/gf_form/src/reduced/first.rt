@@ -192,8 +192,8 @@ fn first_numbers(
     requires whole { player.now.whole
         ≡ product (action_counts player.now.game.now player.now.number) }
     requires visits { FindRelevance player.now.game.now player.now.number visits.now }
-    ensures { IfOk result (λ numbers. AreFoundTo player.now.game.now player.now.number
-        numbers.items player.now.whole) }
+    ensures { IfOk result (λ numbers. AreFirstsOf player.now.game.now numbers.items
+        player.now.number) }
 {
     let whole = player.whole;
     let own = own_visits(alloc, visits, &player.digits)?;
@@ -208,39 +208,8 @@ fn first_numbers(
     Ok(search.numbers)
 }
 
-/// The numbers of the first strategies that reduce to each reduced strategy of a player, from 0,
-/// and the labels of the reduced ones. Each of his sets has this many actions, and he has `whole`
-/// strategies.
-fn first_strategies(
-    alloc: Global,
-    game: &Game<'_>,
-    player: u32,
-    counts: &[u32],
-    whole: u32,
-) -> Result<(Vec<u32>, Labels), AllocError>
-    requires is_game { IsGame game.now }
-    requires counts { counts.now ≡ action_counts game.now player }
-    requires whole { whole ≡ product counts.now }
-    ensures firsts { IfOk result (λ own. AreFirstsOf game.now own.0.items player) }
-    ensures labels { IfOk result (λ own. own.1 ≡ reduced_labels game.now player) }
-{
-    let steps = own_steps(alloc, counts)?;
-    let digits = own_digits(alloc, counts, &steps)?;
-    let visits = visits_in(alloc, game, player, &steps)?;
-    let player = Player {
-        game,
-        number: player,
-        counts,
-        whole,
-        digits,
-    };
-    let numbers = first_numbers(alloc, &player, &visits)?;
-    let labels = labels_of(alloc, &player, &visits, &numbers)?;
-    Ok((numbers, labels))
-}
-
-/// The same for a player who has one strategy. He has one action at each of his sets, so all of
-/// them are relevant, and there is no need to walk the tree for him.
+/// The number of the only strategy of a player, and its label. He has one action at each of his sets,
+/// so all of them are relevant, and there is no need to walk the tree for him.
 #[tactic(auto, using(crate::proofs::lemmas::reduced::Coming::only_label))]
 fn only_strategy(
     alloc: Global,
@@ -260,7 +229,10 @@ fn only_strategy(
     Ok((firsts, labels))
 }
 
-/// The same for any player.
+/// The numbers of the first strategies that reduce to each reduced strategy of a player, from 0,
+/// and the labels of the reduced ones. Each of his sets has this many actions, and he has `whole`
+/// strategies.
+#[tactic(auto, using(crate::proofs::lemmas::reduced::SearchStarts::start_steps))]
 fn own_strategies(
     alloc: Global,
     game: &Game<'_>,
@@ -277,7 +249,19 @@ fn own_strategies(
     if whole == 1 {
         return only_strategy(alloc, game, player, counts);
     }
-    first_strategies(alloc, game, player, counts, whole)
+    let steps = own_steps(alloc, counts)?;
+    let digits = own_digits(alloc, counts, &steps)?;
+    let visits = visits_in(alloc, game, player, &steps)?;
+    let player = Player {
+        game,
+        number: player,
+        counts,
+        whole,
+        digits,
+    };
+    let numbers = first_numbers(alloc, &player, &visits)?;
+    let labels = labels_of(alloc, &player, &visits, &numbers)?;
+    Ok((numbers, labels))
 }
 
 /// The numbers of the first strategies of each player, and the labels of his reduced ones.

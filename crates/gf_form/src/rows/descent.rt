@@ -139,7 +139,7 @@ impl<'s, 'g, 'a, S: Handed> Descent<'s, 'g, 'a, S> {
     }
 
     /// Goes past the next child of an open node, which comes next if the path can go there.
-    #[tactic(auto, using(crate::proofs::lemmas::rows::DescentTold::descent_steps))]
+    #[tactic(auto, using(crate::proofs::lemmas::rows::Descents::descent_steps))]
     fn go_on(&mut self, mut node: Open<'g, 'a, S>) -> Result<(), AllocError>
         requires { self.old.next ≡ None }
         ensures same { self.new.steps ≡ self.old.steps }
@@ -163,7 +163,7 @@ impl<'s, 'g, 'a, S: Handed> Descent<'s, 'g, 'a, S> {
     }
 
     /// The next node, with its state, or `None` after the last one.
-    #[tactic(auto, using(crate::proofs::lemmas::rows::DescentTold::descent_steps))]
+    #[tactic(auto, using(crate::proofs::lemmas::rows::Descents::descent_steps))]
     pub(crate) fn next(&mut self) -> Result<Option<(Branch<'g, 'a>, S)>, AllocError>
         ensures { IfOk result (λ found. MatchOption found (stops_left S.handing self.old ≡ [])
             (λ found. stops_left S.handing self.old ≡ stop_at (game_of found.0)

@@ -2,17 +2,15 @@
 //! otherwise the action's position.
 
 ghost use Rattle.std.specs.Prelude.{◌≡◌, ◌<◌, ◌≤◌, ◌^◌, ◌++◌, ◌∷◌, ℕ, List, IfOk, MatchOption};
-ghost use Rattle.std.specs.Prelude.{length};
 ghost use Rattle.gf_tree.specs.Game.{Game};
 ghost use Rattle.gf_form.specs.inner.strategies.Counted.{AreCounts};
-ghost use Rattle.gf_form.specs.inner.rows.DigitSteps.{steps_after, width};
+ghost use Rattle.gf_nfg.specs.Profiles.{product};
+ghost use Rattle.gf_form.specs.inner.rows.DigitSteps.{steps_after, strides_of, width};
 ghost use Rattle.gf_form.specs.inner.rows.GameDigits.{AreDigitsOf, HasDigits};
 ghost use Rattle.gf_form.specs.inner.rows.Descents.{demanded};
-ghost use Rattle.gf_form.specs.inner.values.ChoicesGiven.{AreOfProfile};
-ghost use Rattle.gf_form.specs.Strategies.{full_profiles};
+ghost use Rattle.gf_form.specs.inner.reduced.Levels.{ArePositive};
 
 use crate::strategies::counts::Counts;
-use crate::values::choices::ProfileChoices;
 use std::alloc::{AllocError, Global};
 
 /// A digit: a set of a player who has several actions there.
@@ -26,7 +24,7 @@ pub(crate) struct Digit {
 
 /// The action that a number demands at the digit with this step, if there are this many actions; 0
 /// if any will do, or if there is no digit, and the step is 0.
-#[tactic(auto, using(crate::proofs::lemmas::rows::DigitsMade::demand_steps))]
+#[tactic(auto, using(crate::proofs::lemmas::rows::Digits::demand_steps))]
 pub(crate) fn demanded(demands: u64, step: u64, actions: usize) -> u64
     ensures { result ≡ demanded demands step actions }
 {
@@ -43,7 +41,7 @@ pub(crate) fn demanded(demands: u64, step: u64, actions: usize) -> u64
 /// Puts the digit of a set with this many actions before faster ones, which have this many values
 /// together. Returns its step, and how many values they all have; `None` above the greatest number.
 /// A set with one action has no digit, and its step is 0.
-#[tactic(auto, using(crate::proofs::lemmas::rows::DigitsMade::set_steps))]
+#[tactic(auto, using(crate::proofs::lemmas::rows::Digits::set_steps))]
 fn put_digit(
     actions: u32,
     values: u64,
@@ -97,16 +95,34 @@ pub(crate) fn put_digits(
     Ok(Some((steps, all)))
 }
 
+/// What one more action at each set adds to the number of a profile, if there are this many actions
+/// at each and this many choices at faster sets. Returns also how many choices all have.
+fn strides(alloc: Global, actions: &[u32], faster: u32) -> Result<(Vec<u32>, u32), AllocError>
+    ensures { IfOk result (λ made. (later : List ℕ) → faster ≡ product later
+        → ArePositive (actions.now ++ later) → product (actions.now ++ later) < 2 ^ 32
+        → (made.0.items ++ strides_of later ≡ strides_of (actions.now ++ later))
+        × (made.1 ≡ product (actions.now ++ later))) }
+{
+    let mut strides = Vec::with_capacity(alloc, actions.len())?;
+    let mut choices = faster;
+    for place in (0..actions.len()).rev() {
+        strides.push(choices)?;
+        choices = choices.wrapping_mul(actions[place]);
+    }
+    strides.reverse();
+    Ok((strides, choices))
+}
+
 /// The digits of a game.
 #[derive(Drop)]
 pub(crate) struct Digits {
     /// The step of the digit of each set of each player, in order of first use; 0 if there is only
     /// one action.
     pub steps: Vec<Vec<u64>>,
+    /// What one more action there adds to the number of a profile.
+    pub strides: Vec<Vec<u32>>,
     /// From the slowest on.
     pub digits: Vec<Digit>,
-    /// How many profiles there are.
-    pub profiles: u32,
 }
 
 impl Digits {
@@ -117,39 +133,22 @@ impl Digits {
             → HasDigits g digits) }
     {
         let mut steps = Vec::with_capacity(alloc, counts.actions.len())?;
+        let mut all_strides = Vec::with_capacity(alloc, counts.actions.len())?;
         let mut digits = Vec::new(alloc);
         let mut values = 1;
+        let mut choices = 1;
         for own in &counts.actions {
             let (own_steps, more) = put_digits(alloc, own, values, &mut digits)?.unwrap();
             values = more;
             steps.push(own_steps)?;
+            let (own_strides, all) = strides(alloc, own, choices)?;
+            choices = all;
+            all_strides.push(own_strides)?;
         }
         Ok(Digits {
             steps,
+            strides: all_strides,
             digits,
-            profiles: counts.profiles.count,
         })
-    }
-
-    /// The choices of the profile with this number, from 0.
-    pub(crate) fn profile(&self, number: u32) -> ProfileChoices<'_>
-        requires { (g : Game) × HasDigits g self.now × (number < length (full_profiles g)) }
-        ensures number { result.number ≡ number }
-        ensures choices { (g : Game) → HasDigits g self.now → number < length (full_profiles g)
-            → AreOfProfile g result }
-    {
-        let mut demands = 0;
-        let mut stride = self.profiles;
-        let mut rest = number;
-        for digit in &self.digits {
-            stride /= digit.actions;
-            demands += u64::from(rest / stride + 1) * digit.step;
-            rest %= stride;
-        }
-        ProfileChoices {
-            number,
-            digits: self,
-            demands,
-        }
     }
 }

@@ -14,10 +14,10 @@ ghost use Rattle.gf_form.specs.inner.values.PaidRows.{rows_of};
 ghost use Rattle.gf_form.specs.inner.rows.Paying.{FitOver};
 ghost use Rattle.gf_form.specs.inner.values.Rows.{ArePaid};
 ghost use Rattle.gf_form.specs.Strategies.{choices_by};
-ghost use Rattle.gf_form.specs.declared.rows.paths.Reached.{Reached};
+ghost use Rattle.gf_form.specs.declared.rows.paths.Path.{Path};
 
 use crate::rows::digits::Digits;
-use crate::rows::paths::{Path, Reached};
+use crate::rows::paths::Path;
 use crate::rows::share::{Share, payoff_at, share_of};
 use crate::rows::shares::paid_sums;
 use crate::rows::sums::{combined, multiple};
@@ -41,10 +41,10 @@ fn denominator(path: Path, row: &[Fraction]) -> Option<u128> {
 }
 
 /// A denominator that serves all of these nodes: this one, if it does; `None` if it is too large.
-fn common_denominator(nodes: &[Reached], payoffs: &Payoffs<'_>, start: u128) -> Option<u128> {
+fn common_denominator(nodes: &[Path], payoffs: &Payoffs<'_>, start: u128) -> Option<u128> {
     let mut common = start;
     for node in nodes {
-        let own = denominator(node.path(), payoffs.at(node.outcome))?;
+        let own = denominator(*node, payoffs.at(node.outcome))?;
         common = multiple(common, own)?;
     }
     Some(common)
@@ -52,7 +52,7 @@ fn common_denominator(nodes: &[Reached], payoffs: &Payoffs<'_>, start: u128) -> 
 
 /// What nodes add together to the payoff of the player at this place, from 0, over a denominator;
 /// `None` if that is not a whole number, or is too large.
-fn shares_of(nodes: &[Reached], payoffs: &Payoffs<'_>, place: usize, den: u128) -> Option<Share>
+fn shares_of(nodes: &[Path], payoffs: &Payoffs<'_>, place: usize, den: u128) -> Option<Share>
     ensures shares { IfSome result (λ sum. (g : Game) → ArePaid g (rows_of payoffs.now)
         → HasShares g nodes.now place den sum.bound sum.amount) }
     ensures within { IfSome result (λ sum. IsWithin sum.amount) }
@@ -66,7 +66,7 @@ fn shares_of(nodes: &[Reached], payoffs: &Payoffs<'_>, place: usize, den: u128) 
     };
     for node in nodes {
         let payoff = payoff_at(payoffs, node.outcome, place);
-        let share = share_of(node.path(), payoff, den)?;
+        let share = share_of(*node, payoff, den)?;
         let amount = combined(sum.amount, 1, share.amount, 1)?;
         let bound = sum.bound.checked_add(share.bound)?;
         sum = Share { amount, bound };
@@ -78,7 +78,7 @@ fn shares_of(nodes: &[Reached], payoffs: &Payoffs<'_>, place: usize, den: u128) 
 /// numbers are over.
 fn push_shares(
     numbers: &mut Vec<i128>,
-    nodes: &[Reached],
+    nodes: &[Path],
     payoffs: &Payoffs<'_>,
     players: usize,
     den: u128,
@@ -107,7 +107,7 @@ fn push_shares(
 fn push_nodes(
     terms: &mut Terms,
     demands: u64,
-    nodes: &[Reached],
+    nodes: &[Path],
     payoffs: &Payoffs<'_>,
     common: u128,
 ) -> Result<(), AllocError>
@@ -128,11 +128,11 @@ fn push_nodes(
 }
 
 /// The place after the last of the nodes that have the demands of the one at this place, from 0.
-fn alike_end(nodes: &[Reached], start: usize) -> usize
+fn alike_end(nodes: &[Path], start: usize) -> usize
     requires { start < length nodes.now }
     ensures onward { start < result }
     ensures within { result ≤ length nodes.now }
-    ensures alike { (d : Reached) (k : ℕ) → start ≤ k → k < result
+    ensures alike { (d : Path) (k : ℕ) → start ≤ k → k < result
         → (get_or nodes.now k d).demands ≡ (get_or nodes.now start d).demands }
 {
     let demands = nodes[start].demands;
@@ -169,12 +169,12 @@ impl Terms {
 /// The terms of nodes in order of demands, over this denominator if it serves.
 fn listed_over(
     alloc: Global,
-    nodes: &[Reached],
+    nodes: &[Path],
     payoffs: &Payoffs<'_>,
     players: usize,
     common: u128,
 ) -> Result<Terms, AllocError>
-    requires { IsNonDecreasingBy (λ (r : Reached). r.demands) nodes.now }
+    requires { IsNonDecreasingBy (λ (r : Path). r.demands) nodes.now }
     ensures terms { IfOk result (λ terms. (g : Game) → ArePaid g (rows_of payoffs.now)
         → AreTermsOf g players nodes.now (all_terms terms)) }
     ensures ordered { IfOk result (λ terms. AreOrdered terms) }
@@ -196,11 +196,11 @@ fn listed_over(
 /// are quick to add.
 fn listed(
     alloc: Global,
-    nodes: &[Reached],
+    nodes: &[Path],
     payoffs: &Payoffs<'_>,
     players: usize,
 ) -> Result<Terms, AllocError>
-    requires { IsNonDecreasingBy (λ (r : Reached). r.demands) nodes.now }
+    requires { IsNonDecreasingBy (λ (r : Path). r.demands) nodes.now }
     ensures terms { IfOk result (λ terms. (g : Game) → ArePaid g (rows_of payoffs.now)
         → AreTermsOf g players nodes.now (all_terms terms)) }
     ensures ordered { IfOk result (λ terms. AreOrdered terms) }

@@ -7,7 +7,7 @@
 ghost use Rattle.std.specs.Prelude.{◌≡◌};
 ghost use Rattle.gf_tree.specs.Branches.{game_of, tree_of};
 ghost use Rattle.gf_tree.specs.Subtrees.{root_node};
-ghost use Rattle.gf_form.specs.inner.rows.ReachedNodes.{by_chance, is_sum, met_node, path_to};
+ghost use Rattle.gf_form.specs.inner.rows.ReachedNodes.{by_chance, is_sum, met_node};
 ghost use Rattle.gf_form.specs.inner.rows.ReachedNodes.{root_path};
 
 use crate::rows::descent::Handed;
@@ -15,7 +15,7 @@ use crate::values::walk::chance_of;
 use gf_fraction::Fraction;
 use gf_tree::Branch;
 
-/// What a path from the root demands.
+/// A path from the root, to a node that choices can reach.
 #[derive(Clone, Copy)]
 pub(crate) struct Path {
     /// The product of the numerators of its probabilities.
@@ -27,16 +27,8 @@ pub(crate) struct Path {
     pub den: u128,
     /// The choices that it demands, by their digits.
     pub demands: u64,
-}
-
-/// A node that choices can reach. The parts of its path stand one by one, which takes fewer bytes.
-#[derive(Clone, Copy)]
-pub(crate) struct Reached {
-    pub weight: u128,
-    pub bound: u128,
-    pub den: u128,
-    pub demands: u64,
-    /// The position of its outcome among those of the game, from 1; 0 is none.
+    /// The position of the outcome at the last node that was met, among those of the game, from 1;
+    /// 0 is none.
     pub outcome: u32,
 }
 
@@ -50,6 +42,25 @@ impl Path {
             bound: 1,
             den: 1,
             demands: 0,
+            outcome: 0,
+        }
+    }
+
+    /// The same, if its numbers do not fit.
+    pub(crate) fn unknown(self) -> Path
+        ensures { result ≡ record {
+          weight = 0;
+          bound = 1;
+          den = 0;
+          demands = self.demands;
+          outcome = self.outcome;
+        } }
+    {
+        Path {
+            weight: 0,
+            bound: 1,
+            den: 0,
+            ..self
         }
     }
 
@@ -66,70 +77,29 @@ impl Path {
                 weight,
                 bound,
                 den,
-                demands: self.demands,
+                ..self
             },
-            _ => Path {
-                weight: 0,
-                bound: 1,
-                den: 0,
-                demands: self.demands,
-            },
+            _ => self.unknown(),
         }
     }
 
-    /// The node at the end of this path, which is the root of this branch. The path starts anew
-    /// there if it was idle and the node's value is a sum.
-    pub(crate) fn met_node(self, branch: &Branch<'_, '_>) -> Reached
+    /// This path up to its last node, which is the root of this branch. It starts anew there if it
+    /// was idle and the node's value is a sum.
+    pub(crate) fn met_node(self, branch: &Branch<'_, '_>) -> Path
         ensures { result ≡ met_node (game_of branch.now) self (root_node (tree_of branch.now)) }
     {
         let outcome = branch.outcome_position();
         if self.bound > 0 {
-            return self.last_node(outcome);
+            return Path { outcome, ..self };
         }
         if !is_sum(branch) {
-            return self.last_node(0);
+            return Path { outcome: 0, ..self };
         }
-        let path = Path {
-            weight: self.weight,
+        Path {
             bound: 1,
             den: 1,
-            demands: self.demands,
-        };
-        path.last_node(outcome)
-    }
-
-    /// The node at the end of this path, with this outcome.
-    #[inline(always)]
-    pub(crate) fn last_node(self, outcome: u32) -> Reached
-        ensures { result ≡ record {
-          weight = self.weight;
-          bound = self.bound;
-          den = self.den;
-          demands = self.demands;
-          outcome = outcome;
-        } }
-    {
-        Reached {
-            weight: self.weight,
-            bound: self.bound,
-            den: self.den,
-            demands: self.demands,
             outcome,
-        }
-    }
-}
-
-impl Reached {
-    /// The path to this node.
-    #[inline(always)]
-    pub(crate) fn path(self) -> Path
-        ensures { result ≡ path_to self }
-    {
-        Path {
-            weight: self.weight,
-            bound: self.bound,
-            den: self.den,
-            demands: self.demands,
+            ..self
         }
     }
 }
@@ -154,12 +124,9 @@ impl Handed for Path {
     }
 
     fn below(&self, node: &Branch<'_, '_>, position: usize, demands: u64) -> Path {
-        let onward = self.met_node(node).path();
         let path = Path {
-            weight: onward.weight,
-            bound: onward.bound,
-            den: onward.den,
             demands,
+            ..self.met_node(node)
         };
         match node.mover() {
             Some((0, _)) => path.by_chance(chance_of(node, position)),

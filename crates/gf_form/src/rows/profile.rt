@@ -1,4 +1,4 @@
-//! The payoffs at profiles.
+//! The payoffs at profiles, and at each profile of the strategic form.
 
 ghost use Rattle.std.specs.Prelude.{◌≡◌, ◌<◌, ◌≤◌, ℕ, true, IfOk, IsErrOf, OnOk, get_or, length};
 ghost use Rattle.std.specs.List.{AllByRecursion};
@@ -7,14 +7,17 @@ ghost use Rattle.gf_form.specs.inner.strategies.Counted.{AreCounts};
 ghost use Rattle.gf_form.specs.inner.strategies.ProfileNumbers.{AreProfileNumbers};
 ghost use Rattle.gf_form.specs.inner.strategies.ProfileNumbers.{numbered_profiles};
 ghost use Rattle.gf_form.specs.inner.rows.ProfileRows.{AreRowsAt};
-ghost use Rattle.gf_form.specs.Refusal.{HasValues, IsFirstWithout};
+ghost use Rattle.gf_form.specs.Refusal.{HasValues, IsFirstWithout, OverflowsAt};
 ghost use Rattle.gf_form.specs.StrategicForm.{ArePayoffsAt};
+ghost use Rattle.gf_form.specs.Strategies.{full_profiles};
 
 use crate::fault::FormFault;
+use crate::rows::asked::{Asked, Run};
 use crate::rows::digits::Digits;
 use crate::rows::listed::game_terms;
-use crate::rows::written::{Asked, Run, Written};
+use crate::rows::written::Written;
 use crate::strategies::counts::Counts;
+use crate::strategies::profile_numbers::numbers_below;
 use crate::values::payoffs::Payoffs;
 use gf_fraction::Fraction;
 use gf_tree::Game;
@@ -73,4 +76,25 @@ pub(crate) fn profile_rows(
     };
     written.push_rows(&asked, &terms, &digits.digits, run)?;
     Ok(written.rows)
+}
+
+/// What each player is paid at each profile.
+#[tactic(auto, using(crate::proofs::lemmas::strategies::PickedProfiles::full_steps))]
+pub(crate) fn full_rows(
+    alloc: Global,
+    game: &Game<'_>,
+    counts: &Counts,
+) -> Result<Vec<Fraction>, FormFault>
+    requires players { length game.now.players ≤ 4294967295 }
+    requires counts { AreCounts game.now counts.now }
+    ensures rows { IfOk result (λ rows.
+        AreRowsAt (ArePayoffsAt game.now) (full_profiles game.now) rows.items) }
+    ensures values { OnOk result
+        (AllByRecursion (HasValues game.now) (full_profiles game.now)) }
+    ensures few { IsErrOf result FormFault.TooManyProfiles → ⊥ }
+    ensures overflow { (position : ℕ) → IsErrOf result (FormFault.Overflow position)
+        → OverflowsAt game.now position }
+{
+    let numbers = numbers_below(alloc, counts.profiles.count)?;
+    profile_rows(alloc, game, counts, &numbers)
 }

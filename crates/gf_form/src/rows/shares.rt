@@ -6,11 +6,11 @@ ghost use Rattle.gf_form.specs.inner.rows.KeptNodes.{paid_reached};
 ghost use Rattle.gf_form.specs.inner.rows.SummedNodes.{HaveSharesOf, IsNodeSum, IsPathSum};
 ghost use Rattle.gf_form.specs.inner.values.PaidRows.{rows_of};
 ghost use Rattle.gf_form.specs.Strategies.{choices_by};
-ghost use Rattle.gf_form.specs.declared.rows.paths.Reached.{Reached};
+ghost use Rattle.gf_form.specs.declared.rows.paths.Path.{Path};
 
 use crate::rows::descent::{Descent, Steps};
 use crate::rows::digits::Digits;
-use crate::rows::paths::{Path, Reached};
+use crate::rows::paths::Path;
 use crate::rows::sums::scale_of;
 use crate::rows::terms::Head;
 use crate::values::payoffs::Payoffs;
@@ -49,6 +49,7 @@ fn times(number: u128, by: u128) -> Option<u128>
 fn sum_of(a: Path, b: Path) -> Option<Path>
     ensures sum { IfSome result (IsPathSum a b) }
     ensures demands { IfSome result (λ sum. sum.demands ≡ a.demands) }
+    ensures outcome { IfSome result (λ sum. sum.outcome ≡ a.outcome) }
 {
     let scale = scale_of(head_of(a), head_of(b))?;
     let own = times(a.weight, scale.first)?;
@@ -57,11 +58,11 @@ fn sum_of(a: Path, b: Path) -> Option<Path>
         weight: own.checked_add(other)?,
         bound: scale.size,
         den: scale.den,
-        demands: a.demands,
+        ..a
     })
 }
 
-impl Reached {
+impl Path {
     /// A number that orders nodes by demands, those with the same demands by outcome, and those
     /// with the same outcome by denominator, as far as its last digits go.
     fn order(self) -> u128 {
@@ -73,24 +74,17 @@ impl Reached {
     /// Adds another node to this one, if it has the same demands and outcome. If the sum does not
     /// fit, it is not known; then what the nodes add would not fit either.
     #[inline(always)]
-    fn absorbs(&mut self, other: Reached) -> bool
+    fn absorbs(&mut self, other: Path) -> bool
         ensures sum { result ≡ true → IsNodeSum self.old other self.new }
         ensures same { result ≡ false → self.new ≡ self.old }
     {
         if self.demands != other.demands || self.outcome != other.outcome {
             return false;
         }
-        let Some(sum) = sum_of(self.path(), other.path()) else {
-            let unknown = Path {
-                weight: 0,
-                bound: 1,
-                den: 0,
-                demands: self.demands,
-            };
-            *self = unknown.last_node(self.outcome);
-            return true;
+        *self = match sum_of(*self, other) {
+            Some(sum) => sum,
+            None => self.unknown(),
         };
-        *self = sum.last_node(self.outcome);
         true
     }
 }
@@ -101,7 +95,7 @@ fn paid_nodes(
     game: &Game<'_>,
     digits: &Digits,
     payoffs: &Payoffs<'_>,
-) -> Result<Vec<Reached>, AllocError>
+) -> Result<Vec<Path>, AllocError>
     ensures { IfOk result (λ nodes. nodes.items ≡ paid_reached (rows_of payoffs.now) game.now
         (choices_by game.now (map (λ own. own.items) digits.now.steps.items))) }
 {
@@ -117,7 +111,7 @@ fn paid_nodes(
 }
 
 /// Adds up neighbours with the same demands and outcome.
-fn add_up(nodes: &mut Vec<Reached>)
+fn add_up(nodes: &mut Vec<Path>)
     ensures { HaveSharesOf nodes.old.items nodes.new.items }
 {
     // First those over the same denominator, which takes no division.
@@ -131,11 +125,11 @@ pub(crate) fn paid_sums(
     game: &Game<'_>,
     digits: &Digits,
     payoffs: &Payoffs<'_>,
-) -> Result<Vec<Reached>, AllocError>
+) -> Result<Vec<Path>, AllocError>
     ensures shares { IfOk result (λ nodes. HaveSharesOf (paid_reached (rows_of payoffs.now) game.now
         (choices_by game.now (map (λ own. own.items) digits.now.steps.items))) nodes.items) }
     ensures ordered { IfOk result
-        (λ nodes. IsNonDecreasingBy (λ (r : Reached). r.demands) nodes.items) }
+        (λ nodes. IsNonDecreasingBy (λ (r : Path). r.demands) nodes.items) }
 {
     let mut nodes = paid_nodes(alloc, game, digits, payoffs)?;
     nodes.sort_unstable_by_key(|node| node.order());

@@ -1,11 +1,15 @@
-//! Sums of terms over different denominators.
+//! Sums of terms, which may be over different denominators.
 
-ghost use Rattle.std.specs.Prelude.{◌≡◌, ◌*ℤ◌, ◌+ℤ◌, IfSome, get_or, pos};
+ghost use Rattle.std.specs.Prelude.{◌≡◌, ◌*ℤ◌, ◌+ℤ◌, IfSome, get_or, pos, ◌+◌, ◌<◌, IfOk, OnOk};
+ghost use Rattle.std.specs.Prelude.{length};
 ghost use Rattle.gf_fraction.specs.Ratio.{IsWithin};
-ghost use Rattle.gf_form.specs.inner.rows.TermLists.{IsFactor, IsScale};
+ghost use Rattle.gf_form.specs.inner.rows.TermLists.{IsFactor, IsScale, AreAlike, HasSum, IsShaped};
+ghost use Rattle.gf_form.specs.inner.rows.TermLists.{IsSumAt, all_terms, term_at};
+ghost use Rattle.gf_form.specs.inner.rows.ItemRows.{HasRow};
 
-use crate::rows::terms::Head;
+use crate::rows::terms::{Head, Terms};
 use gf_fraction::Fraction;
+use std::alloc::AllocError;
 
 /// How two terms are brought over one denominator.
 #[derive(Clone, Copy)]
@@ -17,6 +21,14 @@ pub(crate) struct Scale {
     pub first: u128,
     pub second: u128,
 }
+
+/// In place of a scale that is too large: no denominator is 0.
+const UNKNOWN: Scale = Scale {
+    den: 0,
+    size: 0,
+    first: 1,
+    second: 1,
+};
 
 /// The least denominator that serves both; `None` if it is too large. The denominator of `a / b` in
 /// lowest terms is the factor by which `a` has to be multiplied for it.
@@ -151,4 +163,125 @@ pub(crate) fn sum_at(first: &[i128], second: &[i128], place: usize, scale: Scale
     let one = number_at(first, place);
     let other = number_at(second, place);
     combined(one, scale.first, other, scale.second)
+}
+
+/// Appends numbers that are sums of these, each times its factor. Returns their denominator, or 0
+/// if one of them does not fit.
+#[inline(always)]
+fn push_numbers(
+    numbers: &mut Vec<i128>,
+    first: &[i128],
+    second: &[i128],
+    scale: Scale,
+) -> Result<u128, AllocError>
+    ensures row { IfOk result (λ den. HasRow (IsSumAt first.now second.now scale den)
+        (length first.now) numbers.old.items numbers.new.items) }
+    ensures den { IfOk result (λ den. 0 < den → den ≡ scale.den) }
+{
+    numbers.reserve(first.len())?;
+    let mut den = scale.den;
+    for place in 0..first.len() {
+        let number = match sum_at(first, second, place, scale) {
+            Some(number) => number,
+            None => {
+                den = 0;
+                0
+            }
+        };
+        numbers.push_reserved(number);
+    }
+    Ok(den)
+}
+
+impl Terms {
+    /// How the terms at these places, from 0, are brought over one denominator.
+    fn scale_between(&self, first: usize, second: usize) -> Scale
+        requires first { first < length self.now.demands.items }
+        requires second { second < length self.now.demands.items }
+        ensures { 0 < result.den
+            → IsScale (term_at self.now first).head (term_at self.now second).head result }
+    {
+        match scale_of(self.head(first), self.head(second)) {
+            Some(scale) => scale,
+            None => UNKNOWN,
+        }
+    }
+
+    /// Appends the sum of two terms of a list, at these places, from 0, with the demands of the
+    /// first, if they are brought over one denominator by this scale.
+    #[inline(always)]
+    fn push_over(
+        &mut self,
+        from: &Terms,
+        first: usize,
+        second: usize,
+        scale: Scale,
+    ) -> Result<(), AllocError>
+        requires players { self.old.players ≡ from.now.players }
+        requires shaped { IsShaped self.old × IsShaped from.now }
+        requires first { first < length from.now.demands.items }
+        requires second { second < length from.now.demands.items }
+        requires scale { 0 < scale.den
+            → IsScale (term_at from.now first).head (term_at from.now second).head scale }
+        ensures sum { OnOk result (HasSum (term_at from.now first) (term_at from.now second)
+            (all_terms self.old) (all_terms self.new)) }
+        ensures alike { AreAlike self.new self.old }
+        ensures shaped { OnOk result (IsShaped self.new) }
+    {
+        let one = from.row(first);
+        let other = from.row(second);
+        let den = push_numbers(&mut self.numbers, one, other, scale)?;
+        self.push_head(Head {
+            demands: from.demands[first],
+            den,
+            size: scale.size,
+        })?;
+        Ok(())
+    }
+
+    /// The same by the scale that there is between the two.
+    #[inline(never)]
+    fn push_scaled(&mut self, from: &Terms, first: usize, second: usize) -> Result<(), AllocError>
+        requires players { self.old.players ≡ from.now.players }
+        requires shaped { IsShaped self.old × IsShaped from.now }
+        requires first { first < length from.now.demands.items }
+        requires second { second < length from.now.demands.items }
+        ensures sum { OnOk result (HasSum (term_at from.now first) (term_at from.now second)
+            (all_terms self.old) (all_terms self.new)) }
+        ensures alike { AreAlike self.new self.old }
+        ensures shaped { OnOk result (IsShaped self.new) }
+    {
+        let scale = from.scale_between(first, second);
+        self.push_over(from, first, second, scale)
+    }
+
+    /// Appends the sum of two terms of a list, at these places, from 0, with the demands of the
+    /// first.
+    #[inline(always)]
+    pub(crate) fn push_sum(
+        &mut self,
+        from: &Terms,
+        first: usize,
+        second: usize,
+    ) -> Result<(), AllocError>
+        requires players { self.old.players ≡ from.now.players }
+        requires shaped { IsShaped self.old × IsShaped from.now }
+        requires first { first < length from.now.demands.items }
+        requires second { second < length from.now.demands.items }
+        ensures sum { OnOk result (HasSum (term_at from.now first) (term_at from.now second)
+            (all_terms self.old) (all_terms self.new)) }
+        ensures alike { AreAlike self.new self.old }
+        ensures shaped { OnOk result (IsShaped self.new) }
+    {
+        if !from.scaled.is_empty() {
+            return self.push_scaled(from, first, second);
+        }
+        let plain = Scale {
+            den: from.den,
+            size: 0,
+            first: 1,
+            second: 1,
+        };
+        self.push_over(from, first, second, plain)
+    }
 }

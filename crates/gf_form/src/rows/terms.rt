@@ -1,14 +1,12 @@
 //! What the players are paid, as a list of terms: what each adds to their payoffs, and what it
 //! demands of the choices.
 
-ghost use Rattle.std.specs.Prelude.{◌≡◌, ◌+◌, ◌<◌, ◌≤◌, ◌++◌, [], ◌∷◌, IfOk, IsTrue, OnOk, get_or};
+ghost use Rattle.std.specs.Prelude.{◌≡◌, ◌+◌, ◌<◌, ◌≤◌, ◌++◌, [], ◌∷◌, IsTrue, OnOk, get_or};
 ghost use Rattle.std.specs.Prelude.{length, map};
-ghost use Rattle.gf_form.specs.inner.rows.TermLists.{AreAlike, HasSum, IsScale, IsShaped, IsSumAt};
-ghost use Rattle.gf_form.specs.inner.rows.TermLists.{IsNoted, all_terms, with_demands, lowered};
-ghost use Rattle.gf_form.specs.inner.rows.TermLists.{AreInOrder, MayCome, part, scaled_at, term_at};
-ghost use Rattle.gf_form.specs.inner.rows.ItemRows.{HasRow};
+ghost use Rattle.gf_form.specs.inner.rows.TermLists.{AreAlike, IsShaped, IsNoted, all_terms};
+ghost use Rattle.gf_form.specs.inner.rows.TermLists.{with_demands, lowered, AreInOrder, MayCome};
+ghost use Rattle.gf_form.specs.inner.rows.TermLists.{part, scaled_at, term_at};
 
-use crate::rows::sums::{Scale, scale_of, sum_at};
 use std::alloc::{AllocError, Global};
 
 /// What a term demands, and what its numbers are over.
@@ -41,42 +39,6 @@ pub(crate) struct Terms {
     pub den: u128,
     /// The numbers of one term after those of another.
     pub numbers: Vec<i128>,
-}
-
-/// In place of a scale that is too large: no denominator is 0.
-const UNKNOWN: Scale = Scale {
-    den: 0,
-    size: 0,
-    first: 1,
-    second: 1,
-};
-
-/// Appends numbers that are sums of these, each times its factor. Returns their denominator, or 0
-/// if one of them does not fit.
-#[inline(always)]
-fn push_numbers(
-    numbers: &mut Vec<i128>,
-    first: &[i128],
-    second: &[i128],
-    scale: Scale,
-) -> Result<u128, AllocError>
-    ensures row { IfOk result (λ den. HasRow (IsSumAt first.now second.now scale den)
-        (length first.now) numbers.old.items numbers.new.items) }
-    ensures den { IfOk result (λ den. 0 < den → den ≡ scale.den) }
-{
-    numbers.reserve(first.len())?;
-    let mut den = scale.den;
-    for place in 0..first.len() {
-        let number = match sum_at(first, second, place, scale) {
-            Some(number) => number,
-            None => {
-                den = 0;
-                0
-            }
-        };
-        numbers.push_reserved(number);
-    }
-    Ok(den)
 }
 
 /// Appends these, quickly if they are few.
@@ -297,96 +259,5 @@ impl Terms {
             self.push(from, place, less)?;
         }
         Ok(())
-    }
-
-    /// How the terms at these places, from 0, are brought over one denominator.
-    fn scale_between(&self, first: usize, second: usize) -> Scale
-        requires first { first < length self.now.demands.items }
-        requires second { second < length self.now.demands.items }
-        ensures { 0 < result.den
-            → IsScale (term_at self.now first).head (term_at self.now second).head result }
-    {
-        match scale_of(self.head(first), self.head(second)) {
-            Some(scale) => scale,
-            None => UNKNOWN,
-        }
-    }
-
-    /// Appends the sum of two terms of a list, at these places, from 0, with the demands of the
-    /// first, if they are brought over one denominator by this scale.
-    #[inline(always)]
-    fn push_over(
-        &mut self,
-        from: &Terms,
-        first: usize,
-        second: usize,
-        scale: Scale,
-    ) -> Result<(), AllocError>
-        requires players { self.old.players ≡ from.now.players }
-        requires shaped { IsShaped self.old × IsShaped from.now }
-        requires first { first < length from.now.demands.items }
-        requires second { second < length from.now.demands.items }
-        requires scale { 0 < scale.den
-            → IsScale (term_at from.now first).head (term_at from.now second).head scale }
-        ensures sum { OnOk result (HasSum (term_at from.now first) (term_at from.now second)
-            (all_terms self.old) (all_terms self.new)) }
-        ensures alike { AreAlike self.new self.old }
-        ensures shaped { OnOk result (IsShaped self.new) }
-    {
-        let one = from.row(first);
-        let other = from.row(second);
-        let den = push_numbers(&mut self.numbers, one, other, scale)?;
-        self.push_head(Head {
-            demands: from.demands[first],
-            den,
-            size: scale.size,
-        })?;
-        Ok(())
-    }
-
-    /// The same by the scale that there is between the two.
-    #[inline(never)]
-    fn push_scaled(&mut self, from: &Terms, first: usize, second: usize) -> Result<(), AllocError>
-        requires players { self.old.players ≡ from.now.players }
-        requires shaped { IsShaped self.old × IsShaped from.now }
-        requires first { first < length from.now.demands.items }
-        requires second { second < length from.now.demands.items }
-        ensures sum { OnOk result (HasSum (term_at from.now first) (term_at from.now second)
-            (all_terms self.old) (all_terms self.new)) }
-        ensures alike { AreAlike self.new self.old }
-        ensures shaped { OnOk result (IsShaped self.new) }
-    {
-        let scale = from.scale_between(first, second);
-        self.push_over(from, first, second, scale)
-    }
-
-    /// Appends the sum of two terms of a list, at these places, from 0, with the demands of the
-    /// first.
-    #[inline(always)]
-    pub(crate) fn push_sum(
-        &mut self,
-        from: &Terms,
-        first: usize,
-        second: usize,
-    ) -> Result<(), AllocError>
-        requires players { self.old.players ≡ from.now.players }
-        requires shaped { IsShaped self.old × IsShaped from.now }
-        requires first { first < length from.now.demands.items }
-        requires second { second < length from.now.demands.items }
-        ensures sum { OnOk result (HasSum (term_at from.now first) (term_at from.now second)
-            (all_terms self.old) (all_terms self.new)) }
-        ensures alike { AreAlike self.new self.old }
-        ensures shaped { OnOk result (IsShaped self.new) }
-    {
-        if !from.scaled.is_empty() {
-            return self.push_scaled(from, first, second);
-        }
-        let plain = Scale {
-            den: from.den,
-            size: 0,
-            first: 1,
-            second: 1,
-        };
-        self.push_over(from, first, second, plain)
     }
 }

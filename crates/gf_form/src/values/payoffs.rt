@@ -68,7 +68,7 @@ impl<'g> Payoffs<'g> {
     }
 
     /// The row of the outcome at this position, from 1; an empty one if there is no such outcome.
-    #[tactic(auto, using(crate::proofs::lemmas::values::PaidRows::at_mapped))]
+    #[tactic(auto, using(crate::proofs::lemmas::values::Walks::at_mapped))]
     pub(crate) fn at(&self, position: u32) -> &'g [Fraction]
         ensures { result.now ≡ row_at (rows_of self.now) position }
     {

@@ -94,7 +94,7 @@ impl<'g, 'a> Walk<'_, 'g, 'a> {
     }
 
     /// The value of a node, if this comes from below.
-    #[tactic(auto, using(crate::proofs::lemmas::values::PaidRows::own_is))]
+    #[tactic(auto, using(crate::proofs::lemmas::values::Walks::own_is))]
     fn close(&self, node: usize, mut below: Vec<Fraction>) -> Result<Next, EvalFault>
         requires walk { IsWalk self.now }
         requires there { IsThere self.now node }
@@ -193,7 +193,7 @@ impl<'g, 'a> Walk<'_, 'g, 'a> {
     }
 
     /// Leaves a child of a node with this value.
-    #[tactic(auto, using(crate::proofs::lemmas::values::PaidRows::below_players))]
+    #[tactic(auto, using(crate::proofs::lemmas::values::Walks::below_players))]
     fn leave(
         &self,
         node: Open,

@@ -1,7 +1,6 @@
 pub mod Agreement
 pub mod Classes
-pub mod LabelsCounted
-pub mod LabelsJoined
+pub mod LabelLists
 pub mod Listed
 pub mod Lists
 pub mod Made

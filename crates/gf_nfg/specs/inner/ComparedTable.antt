@@ -3,8 +3,8 @@ use Rattle.std.specs.Prelude.{◌≡◌, ◌↔◌, ◌++◌, IsTrue, List}
 use Rattle.gf_fraction.specs.Ratio.{Ratio}
 use Rattle.gf_nfg.specs.inner.Told.{Told}
 use Rattle.gf_nfg.specs.declared.comparison.Comparison.{Comparison}
-use Rattle.gf_nfg.specs.declared.reader.receive.Version.{Version}
-use Rattle.gf_nfg.specs.declared.reader.receive.Version.TheVariants.{Outcomes, Payoffs}
+use Rattle.gf_nfg.specs.declared.receive.Version.{Version}
+use Rattle.gf_nfg.specs.declared.receive.Version.TheVariants.{Outcomes, Payoffs}
 
 -- With any payoffs after those that were told they are the table's exactly when no difference was
 -- found, and these are what is left of the table's; or the payoffs are kept.

@@ -6,8 +6,8 @@ use Rattle.gf_token.specs.Token.{Token, Lexeme}
 use Rattle.gf_token.specs.declared.fault.Fault.{Fault}
 use Rattle.gf_token.specs.declared.fault.Why.{Why}
 use Rattle.gf_token.specs.declared.fault.Why.TheVariants.{TooManyProfiles}
-use Rattle.gf_token.specs.inner.Machine as any_format
-pub use Rattle.gf_token.specs.inner.Machine.{Fails, Goes}
+use Rattle.gf_token.specs.Offered as any_format
+pub use Rattle.gf_token.specs.Offered.{Fails, Goes}
 use Rattle.gf_nfg.specs.Limit.{profile_limit}
 use Rattle.gf_nfg.specs.inner.Machine.{Content, State, finish, step}
 use Rattle.gf_nfg.specs.Position.{Position, Position as p}

@@ -6,10 +6,10 @@ use Rattle.gf_nfg.specs.Table.{IsTable, Table, rows}
 use Rattle.gf_nfg.specs.TableParts.{rows_of, table_with}
 use Rattle.gf_nfg.specs.inner.PayoffLists.{payoffs_in}
 use Rattle.gf_nfg.specs.inner.Told.{Told}
-use Rattle.gf_nfg.specs.declared.reader.receive.Version.TheVariants.{Outcomes}
-use Rattle.gf_nfg.specs.declared.table.listed.Body.{Body}
-use Rattle.gf_nfg.specs.declared.table.listed.Body.TheVariants.{InTurn, Shared}
-use Rattle.gf_nfg.specs.declared.table.listed.Listing.{Listing}
+use Rattle.gf_nfg.specs.declared.receive.Version.TheVariants.{Outcomes}
+use Rattle.gf_nfg.specs.declared.listed.Body.{Body}
+use Rattle.gf_nfg.specs.declared.listed.Body.TheVariants.{InTurn, Shared}
+use Rattle.gf_nfg.specs.declared.listed.Listing.{Listing}
 
 -- all payoffs are small, or the others follow; in outcome version none is small
 pub record IsListing (l : Listing) (told : Told) : Type 0 where

@@ -14,10 +14,10 @@ use Rattle.gf_token.specs.declared.fault.Why.TheVariants.{Expected, BadIndex, No
 use Rattle.gf_token.specs.declared.fault.Why.TheVariants.{UnknownOutcome, Unterminated}
 use Rattle.gf_fraction.specs.Ratio.{Ratio}
 use Rattle.gf_fraction.specs.declared.fraction.NumberFault.{NumberFault}
-use Rattle.gf_fraction.specs.inner.Computed.{number_of}
+use Rattle.gf_fraction.specs.Offered.{number_of}
 use Rattle.gf_token.specs.NumberWhy.{why_of}
-use Rattle.gf_token.specs.inner.Machine as any_format
-use Rattle.gf_token.specs.inner.Indices.{count_of, index_of}
+use Rattle.gf_token.specs.Offered as any_format
+use Rattle.gf_token.specs.Offered.{count_of, index_of}
 use Rattle.gf_nfg.specs.Position.{Position, Position as p}
 
 -- What was read so far. `counts` says how many strategies each player has, `profiles` is the

@@ -5,7 +5,7 @@ use Rattle.gf_fraction.specs.Ratio.{Ratio}
 use Rattle.gf_nfg.specs.Profiles.{product}
 use Rattle.gf_nfg.specs.Table.{Table}
 use Rattle.gf_nfg.specs.Sentence.{counted_labels}
-use Rattle.gf_nfg.specs.TableParts.{Names, groups, kept_rows, no_pay, table_with}
+use Rattle.gf_nfg.specs.TableParts.{Names, groups, kept_rows, table_with}
 use Rattle.gf_nfg.specs.inner.Machine.{Content}
 
 -- for this many strategies of each player, and their labels in turn, or none if there are only
@@ -24,8 +24,7 @@ names_in c = record {
 
 -- the rows of the profiles; if no outcomes are chosen, they come in turn
 abbrev pub rows_by : Content → List ℕ → List (List Ratio)
-rows_by c choices =
-    kept_rows (length c.players) c.profiles c.payoffs (no_pay (length c.players)) choices
+rows_by c choices = kept_rows (length c.players) c.profiles c.payoffs choices
 
 abbrev pub table_of : Content → Table
 table_of c = table_with (names_in c) (rows_by c c.choices)

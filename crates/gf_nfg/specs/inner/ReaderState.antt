@@ -7,16 +7,16 @@ use Rattle.gf_token.specs.declared.label.Label.{Label}
 use Rattle.gf_token.specs.declared.fault.Fault.{Fault}
 use Rattle.gf_token.specs.declared.fault.Span.{Span}
 use Rattle.gf_token.specs.Remaining.{Remaining}
-use Rattle.gf_token.specs.inner.Machine.{◌>>=◌, Fails, placed}
+use Rattle.gf_token.specs.Offered.{◌>>=◌, Fails, placed}
 use Rattle.gf_nfg.specs.inner.Heard.{Answer, heard, read_on, within}
 use Rattle.gf_nfg.specs.inner.Machine.{Content, at, with_count}
 use Rattle.gf_nfg.specs.Position.{Position, Position as p}
 use Rattle.gf_nfg.specs.inner.Told.{Told}
-use Rattle.gf_nfg.specs.declared.table.heading.Heading.{Heading}
-use Rattle.gf_nfg.specs.declared.table.parts.Parts.{Parts}
+use Rattle.gf_nfg.specs.declared.heading.Heading.{Heading}
+use Rattle.gf_nfg.specs.declared.parts.Parts.{Parts}
 use Rattle.gf_nfg.specs.declared.reader.Reader.{Reader}
-use Rattle.gf_nfg.specs.declared.reader.receive.Version.{Version}
-use Rattle.gf_nfg.specs.declared.reader.receive.Version.TheVariants as version
+use Rattle.gf_nfg.specs.declared.receive.Version.{Version}
+use Rattle.gf_nfg.specs.declared.receive.Version.TheVariants as version
 
 abbrev pub labels_of : List Label → List (List ℕ)
 labels_of labels = map label_of labels

@@ -1,6 +1,6 @@
 -- The pieces of a canonical text, for the functions that append them.
-use Rattle.std.specs.Prelude.{◌≡◌, ℕ, ◌+◌, ◌-◌, ◌<◌, ◌≤◌, Bool, List, length, [], ◌∷◌, ◌++◌, map}
-use Rattle.std.specs.Prelude.{codes, drop, get_or, if◌then◌else◌, nat_lt, take}
+use Rattle.std.specs.Prelude.{ℕ, ◌+◌, ◌-◌, ◌<◌, ◌≤◌, Bool, List, length, [], ◌∷◌, ◌++◌, map}
+use Rattle.std.specs.Prelude.{codes, drop, get_or, if◌then◌else◌, nat_lt}
 use Rattle.std.specs.List.{AllByRecursion, flat_map}
 use Rattle.gf_fraction.specs.Ratio.{Ratio}
 use Rattle.gf_fraction.specs.NumberText.{number_text}
@@ -13,15 +13,6 @@ names_by named n = record n {
   title = if named then n.title else [];
   comment = if named then n.comment else [];
 }
-
--- what was in a vector is still at its front
-abbrev pub Keeps : List ℕ → List ℕ → Type 0
-Keeps old new = take (length old) new ≡ old
-
--- each after a space
-abbrev pub others_text : List (List ℕ) → List ℕ
-others_text [] = []
-others_text (item ∷ items) = 32 ∷ (item ++ others_text items)
 
 -- the payoffs at one profile
 abbrev pub row_text : List Ratio → List ℕ

@@ -7,9 +7,9 @@ use Rattle.gf_nfg.specs.inner.Meaning.{IsComplete, table_of}
 use Rattle.gf_nfg.specs.inner.ReaderState.{content_with}
 use Rattle.gf_nfg.specs.TableText.{SpellsTable}
 use Rattle.gf_nfg.specs.inner.Told.{Told}
-use Rattle.gf_nfg.specs.declared.table.heading.Heading.{Heading}
-use Rattle.gf_nfg.specs.declared.reader.receive.Version.{Version}
-use Rattle.gf_nfg.specs.declared.reader.receive.Version.TheVariants.{Payoffs}
+use Rattle.gf_nfg.specs.declared.heading.Heading.{Heading}
+use Rattle.gf_nfg.specs.declared.receive.Version.{Version}
+use Rattle.gf_nfg.specs.declared.receive.Version.TheVariants.{Payoffs}
 
 -- these parts mean a table within the limit, which the bytes spell
 pub record MeansTable (bytes : List ℕ) (c : Content) : Type 0 where

@@ -5,7 +5,7 @@ use Rattle.gf_nfg.specs.inner.Meaning.{names_in}
 use Rattle.gf_nfg.specs.inner.ReaderState.{content_in}
 use Rattle.gf_nfg.specs.inner.TextParts.{heading_text, names_by, payoffs_text}
 use Rattle.gf_nfg.specs.inner.Told.{Told}
-use Rattle.gf_nfg.specs.declared.reader.receive.Version.TheVariants.{Outcomes, Payoffs}
+use Rattle.gf_nfg.specs.declared.receive.Version.TheVariants.{Outcomes, Payoffs}
 use Rattle.gf_nfg.specs.declared.text.Text.{Text}
 
 -- the lines of payoffs, so many in each; without players the only line is empty

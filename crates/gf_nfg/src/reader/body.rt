@@ -13,13 +13,13 @@ ghost use Rattle.gf_nfg.specs.Position.Position.{BracedPayoff};
 ghost use Rattle.gf_nfg.specs.Position.Position.{FlatPayoffs};
 ghost use Rattle.gf_nfg.specs.Position.Position.{InOutcomes, OutcomeName, OutcomeNumbers};
 ghost use Rattle.gf_nfg.specs.inner.ReaderState.{GoesTo, IsCounted, StandsAt, Telling};
-ghost use Rattle.gf_nfg.specs.declared.reader.receive.Version.TheVariants as version;
+ghost use Rattle.gf_nfg.specs.declared.receive.Version.TheVariants as version;
 
-use crate::reader::receive::Receive;
+use crate::receive::Receive;
 use gf_token::{Cursor, Fault, What, Why};
 
 /// Reads a payoff, and tells it.
-#[tactic(auto, using(gf_fraction::proofs::ComputedAnswers::number_answers))]
+#[tactic(auto, using(gf_fraction::proofs::Offered::number_answers))]
 #[inline(always)]
 fn payoff<'a, R: Receive<'a>>(tokens: &mut Cursor<'a>, to: &mut R) -> Result<(), Fault>
     ensures flat { (b : Telling R) (due : ℕ) → 0 < due → GoesTo b result
@@ -142,7 +142,7 @@ pub(super) fn outcomes<'a, R: Receive<'a>>(
 }
 
 /// Reads the number of one of this many outcomes, and tells it.
-#[tactic(auto, using(gf_token::proofs::ReadingIndices::index_answers))]
+#[tactic(auto, using(gf_token::proofs::Offered::index_answers))]
 #[inline(always)]
 fn number<'a, R: Receive<'a>>(
     tokens: &mut Cursor<'a>,

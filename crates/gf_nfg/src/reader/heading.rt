@@ -9,7 +9,7 @@ ghost use Rattle.gf_nfg.specs.Position.Position.{BeforeStrategies, Format};
 ghost use Rattle.gf_nfg.specs.inner.ReaderState.{answer, body_at};
 
 use super::{Reader, keep};
-use crate::reader::receive::Version;
+use crate::receive::Version;
 use gf_token::{Fault, Span, What, Why};
 
 impl<'a> Reader<'a> {

@@ -3,6 +3,7 @@
 ghost use Rattle.std.specs.Prelude.{◌≡◌, ◌<◌, ◌≤◌, ◌-◌, ◌*◌, ℕ, false, length, IfErr, IfOk, OnOk};
 ghost use Rattle.std.specs.Prelude.{vec_capacity, vec_len};
 ghost use Rattle.gf_token.specs.Next.{is_opening, starts};
+ghost use Rattle.gf_token.specs.Offered.{positive};
 ghost use Rattle.gf_token.specs.Remaining.{StandsBefore};
 ghost use Rattle.gf_token.specs.declared.fault.What.TheVariants as what;
 ghost use Rattle.gf_token.specs.declared.fault.Why.TheVariants.{Memory};
@@ -13,8 +14,18 @@ ghost use Rattle.gf_nfg.specs.Position.Position.{Counts, FirstStrategies, InList
 ghost use Rattle.gf_nfg.specs.inner.ReaderState.{HasMore, answer, settling};
 
 use super::{Reader, keep};
-use crate::reader::readings;
 use gf_token::{Fault, Span, What, Why};
+
+/// The count that an index is: it is above zero.
+#[inline(always)]
+fn count_of(index: Option<u32>) -> Option<u32>
+    ensures { result ≡ positive index }
+{
+    match index {
+        Some(count) if count > 0 => Some(count),
+        _ => None,
+    }
+}
 
 impl<'a> Reader<'a> {
     /// The next player has this many strategies, as the token at this place says.
@@ -43,7 +54,7 @@ impl<'a> Reader<'a> {
     }
 
     /// Reads a count that is due.
-    #[tactic(auto, using(gf_token::proofs::ReadingIndices::index_answers))]
+    #[tactic(auto, using(gf_token::proofs::Offered::index_answers))]
     fn count(&mut self, due: What) -> Result<(), Fault>
         ensures first { (left : ℕ) → 0 < left → due ≡ what.Strategies
             → starts is_opening self.old.tokens.ahead ≡ false
@@ -56,7 +67,7 @@ impl<'a> Reader<'a> {
         let Some((word, index)) = self.tokens.index() else {
             return Err(self.tokens.refusal(Why::Expected(due)));
         };
-        let Some(count) = readings::count(index) else {
+        let Some(count) = count_of(index) else {
             return Err(Fault::at(word.span, Why::BadIndex));
         };
         self.settle(count as usize, word.span)

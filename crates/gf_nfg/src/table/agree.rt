@@ -8,7 +8,7 @@ ghost use Rattle.gf_nfg.specs.inner.TextParts.{names_by};
 use crate::table::Table;
 use crate::table::classes::Classes;
 use crate::table::names::Names;
-use crate::table::rows::{Rows, Shared};
+use crate::table::rows::Rows;
 use gf_fraction::Fraction;
 use gf_token::Label;
 use std::alloc::{AllocError, Global};
@@ -54,44 +54,25 @@ fn same_rows(a: &Rows, b: &Rows) -> bool
     true
 }
 
-/// Whether both have the same numbers.
-fn same_numbers(a: &[u32], b: &[u32]) -> bool
-    ensures { IsTrue result ↔ (a.now ≡ b.now) }
-{
-    a == b
-}
-
-/// Whether both are kept alike, which they need not be to be the same at each profile.
-fn same_shared(a: Shared<'_>, b: Shared<'_>) -> bool
-    ensures { IsTrue result → (a.entry.numbers.now ≡ b.entry.numbers.now)
-        × (a.entry.players ≡ b.entry.players) × (a.entry.payoffs.now ≡ b.entry.payoffs.now)
-        × (a.entry.zeros.now ≡ b.entry.zeros.now) }
-{
-    a.players == b.players
-        && same_numbers(a.numbers, b.numbers)
-        && same_row(a.payoffs, b.payoffs)
-        && same_row(a.zeros, b.zeros)
-}
-
 /// Whether both have the same rows. If profiles share rows in both, rows that were found to be the
 /// same are in one class from then on, so there are fewer comparisons than the two have rows. Two
 /// files that number the same outcomes in the same way need no classes.
 pub(crate) fn same_kept_rows(alloc: Global, a: &Rows, b: &Rows) -> Result<bool, AllocError>
     ensures { IfOk result (λ answer. IsTrue answer ↔ (a.now ≡ b.now)) }
 {
-    let (Some(left), Some(right)) = (a.shared(), b.shared()) else {
+    let (Some((left, m)), Some((right, n))) = (a.shared(), b.shared()) else {
         return Ok(same_rows(a, b));
     };
-    if left.numbers.len() != right.numbers.len() {
+    if m.len() != n.len() {
         return Ok(false);
     }
-    if same_shared(left, right) {
+    if m == n && left.is_kept_as(right) {
         return Ok(true);
     }
-    let mut classes = Classes::new(alloc, left.rows + right.rows)?;
-    for place in 0..left.numbers.len() {
-        let (m, n) = (left.numbers[place] as usize, right.numbers[place] as usize);
-        if classes.unite(m, left.rows + n) && !same_row(left.row(m), right.row(n)) {
+    let mut classes = Classes::new(alloc, left.len() + right.len())?;
+    for place in 0..m.len() {
+        let (m, n) = (m[place] as usize, n[place] as usize);
+        if classes.unite(m, left.len() + n) && !same_row(left.row(m), right.row(n)) {
             return Ok(false);
         }
     }

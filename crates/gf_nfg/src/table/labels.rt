@@ -7,7 +7,7 @@ ghost use Rattle.gf_token.specs.Label.{label_of};
 ghost use Rattle.gf_token.specs.LabelSpelling.{IsLabel};
 ghost use Rattle.gf_nfg.specs.Sentence.{counted_labels};
 ghost use Rattle.gf_nfg.specs.TableParts.{AreSpellings, dashed};
-ghost use Rattle.gf_nfg.specs.inner.TextParts.{Keeps};
+ghost use Rattle.gf_token.specs.TextLayout.{Keeps};
 
 use crate::table::pieces::piece;
 use gf_token::Label;
@@ -95,7 +95,7 @@ impl Labels {
 
     /// How many bytes the labels have, all together.
     // No edit: it returns a part.
-    #[tactic(auto, using(crate::proofs::lemmas::tables::LabelsJoined::labels_size))]
+    #[tactic(auto, using(crate::proofs::lemmas::tables::LabelLists::labels_size))]
     pub fn size(&self) -> usize
         ensures { result ≡ sum (map length self.now) }
     {
@@ -186,7 +186,7 @@ impl Labels {
     }
 
     /// Adds the others' labels at the end. If memory is refused, some of them may have been added.
-    #[tactic(auto, using(crate::proofs::lemmas::tables::LabelsJoined::one_label_more))]
+    #[tactic(auto, using(crate::proofs::lemmas::tables::LabelLists::one_label_more))]
     fn extend_by(&mut self, others: &Labels) -> Result<(), AllocError>
         ensures { OnOk result (self.new ≡ self.old ++ others.now) }
     {
@@ -199,7 +199,7 @@ impl Labels {
 
     /// Adds the labels "1" to `count` at the end. If memory is refused, some of them may have been
     /// added.
-    #[tactic(auto, using(crate::proofs::lemmas::tables::LabelsCounted::one_count_more))]
+    #[tactic(auto, using(crate::proofs::lemmas::tables::LabelLists::one_count_more))]
     pub(crate) fn extend_counted(&mut self, count: u32) -> Result<(), AllocError>
         ensures { OnOk result (self.new ≡ self.old ++ counted_labels count) }
     {

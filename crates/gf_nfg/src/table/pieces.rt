@@ -17,15 +17,6 @@ pub(crate) fn piece_at(first: usize, ends: &[usize], number: usize) -> Range<usi
     start..ends[number]
 }
 
-/// The bytes from `start` to `end`.
-fn between(bytes: &[u8], start: usize, end: usize) -> &[u8]
-    requires ordered { start ≤ end }
-    requires within { end ≤ length bytes.now }
-    ensures { result.now ≡ take (end - start) (drop start bytes.entry.now) }
-{
-    &bytes[start..end]
-}
-
 /// The piece with this number, from 0, of bytes that are cut at these ends.
 #[tactic(auto, using(crate::proofs::lemmas::tables::Pieces::cut_at))]
 pub(crate) fn piece<'a>(bytes: &'a [u8], ends: &[usize], number: usize) -> &'a [u8]
@@ -34,5 +25,5 @@ pub(crate) fn piece<'a>(bytes: &'a [u8], ends: &[usize], number: usize) -> &'a [
     ensures { slice_get (pieces 0 ends.now bytes.entry.now) number ≡ Some result.now }
 {
     let own = piece_at(0, ends, number);
-    between(bytes, own.start, own.end)
+    &bytes[own.start..own.end]
 }

@@ -1,124 +1,115 @@
 //! Rows of payoffs, one for each profile. Profiles may share them.
 
-ghost use Rattle.std.specs.Prelude.{◌≡◌, ◌+◌, ◌*◌, ◌<◌, ◌≤◌, ◌^◌, Some, IfOk, IfSome};
-ghost use Rattle.std.specs.Prelude.{MatchResult, length, slice_get, unwrap_or};
+ghost use Rattle.std.specs.Prelude.{◌≡◌, ◌<◌, ◌^◌, Some, IfOk, IfSome, MatchResult, drop, length};
+ghost use Rattle.std.specs.Prelude.{slice_get, true};
 ghost use Rattle.std.specs.List.{AllByRecursion, flat_map};
-ghost use Rattle.gf_nfg.specs.TableParts.{AreShared, HasRows, kept_row, kept_rows, no_pay};
+ghost use Rattle.gf_nfg.specs.TableParts.{AreShared, HasRows, kept_rows};
 
 use gf_fraction::Fraction;
 use std::alloc::{AllocError, Global};
 use std::marker::Model;
 
+/// Rows of one payoff for each player, with numbers from 0. In the first one each player is paid
+/// zero; it is empty if no profile has it.
+#[derive(Drop)]
+pub(crate) struct NumberedRows {
+    players: usize,
+    zeros: Vec<Fraction>,
+    /// How many rows there are after the first one.
+    count: usize,
+    /// Those rows, one after another.
+    payoffs: Vec<Fraction>,
+}
+
+impl Model for NumberedRows {
+    ghost use Rattle.std.specs.Prelude.{◌∷◌, List};
+    ghost use Rattle.gf_fraction.specs.Ratio.{Ratio};
+    ghost use Rattle.gf_nfg.specs.TableParts.{AreFull, rows_of};
+
+    ghost Value = { List (List Ratio) };
+
+    ghost view = { λ r. r.zeros.items ∷ rows_of r.players r.count r.payoffs.items };
+
+    ghost invariant = { λ r. AreFull r.players r.count r.payoffs.items };
+}
+
+impl NumberedRows {
+    /// How many rows there are.
+    #[tactic(auto, using(crate::proofs::lemmas::tables::Rows::numbered))]
+    pub(crate) fn len(&self) -> usize
+        ensures len { result ≡ length self.now }
+        ensures few { result < 2 ^ 63 }
+    {
+        self.count + 1
+    }
+
+    /// The row with this number.
+    #[tactic(auto, using(crate::proofs::lemmas::tables::Rows::numbered))]
+    pub(crate) fn row(&self, number: usize) -> &[Fraction]
+        requires { number < length self.now }
+        ensures { slice_get self.now number ≡ Some result.now }
+    {
+        if number == 0 {
+            &self.zeros
+        } else {
+            &self.payoffs[(number - 1) * self.players..number * self.players]
+        }
+    }
+
+    /// Whether both are kept alike.
+    #[tactic(auto, using(crate::proofs::lemmas::tables::Agreement::same_by_payoffs))]
+    pub(crate) fn is_kept_as(&self, o: &NumberedRows) -> bool
+        ensures { result ≡ true → self.now ≡ o.now }
+    {
+        self.players == o.players
+            && self.count == o.count
+            && self.zeros.as_slice() == o.zeros.as_slice()
+            && self.payoffs.as_slice() == o.payoffs.as_slice()
+    }
+
+    /// How many payoffs each row after the first one has.
+    #[tactic(auto, using(crate::proofs::lemmas::tables::Rows::numbered))]
+    fn players(&self) -> usize
+        ensures { AllByRecursion (λ row. length row ≡ result) (drop 1 self.now) }
+    {
+        self.players
+    }
+
+    /// The payoffs of all rows after the first one, in turn.
+    #[tactic(auto, using(crate::proofs::lemmas::tables::Rows::numbered))]
+    fn into_payoffs(self) -> Vec<Fraction>
+        ensures { result.items ≡ flat_map (λ row. row) (drop 1 self) }
+    {
+        self.payoffs
+    }
+}
+
 /// A row of one payoff for each player at each profile.
 #[derive(Drop)]
 pub(crate) struct Rows {
-    players: usize,
     profiles: u32,
-    /// The rows that are kept, one after another.
-    payoffs: Vec<Fraction>,
-    /// For each profile the number of its row, from 1, or 0 if each player is paid zero. Without
-    /// numbers, the rows are those of the profiles in turn.
-    choices: Vec<u32>,
-    /// A zero for each player, if there are numbers.
-    zeros: Vec<Fraction>,
+    rows: NumberedRows,
+    /// The number of the row of each profile. If there are none, the profiles have the rows after
+    /// the first one in turn.
+    numbers: Vec<u32>,
 }
 
 impl Model for Rows {
     ghost use Rattle.std.specs.Prelude.{List};
     ghost use Rattle.gf_fraction.specs.Ratio.{Ratio};
-    ghost use Rattle.gf_nfg.specs.TableParts.{HasRows, kept_rows};
+    ghost use Rattle.gf_nfg.specs.TableParts.{AreNumbered, chosen_rows};
 
     ghost Value = { List (List Ratio) };
 
-    ghost view = { λ r.
-        kept_rows r.players r.profiles r.payoffs.items r.zeros.items r.choices.items };
+    ghost view = { λ r. chosen_rows r.rows r.numbers.items };
 
-    ghost invariant = { λ r. HasRows r.players r.profiles r.payoffs.items r.choices.items };
-}
-
-/// Rows with numbers, from 0, that profiles share.
-#[derive(Clone, Copy)]
-pub(crate) struct Shared<'t> {
-    /// The number of the row of each profile.
-    pub numbers: &'t [u32],
-    /// How many rows there are.
-    pub rows: usize,
-    pub players: usize,
-    /// All rows but the first, in which each player is paid zero.
-    pub payoffs: &'t [Fraction],
-    pub zeros: &'t [Fraction],
-}
-
-/// Such rows, with memory of their own.
-#[derive(Drop)]
-pub(crate) struct SharedRows {
-    pub numbers: Vec<u32>,
-    rows: usize,
-    players: usize,
-    payoffs: Vec<Fraction>,
-    zeros: Vec<Fraction>,
-}
-
-impl SharedRows {
-    /// These rows, lent.
-    pub(crate) fn shared(&self) -> Shared<'_>
-        ensures numbers { result.numbers.now ≡ self.now.numbers.items }
-        ensures rows { result.rows ≡ self.now.rows }
-        ensures players { result.players ≡ self.now.players }
-        ensures payoffs { result.payoffs.now ≡ self.now.payoffs.items }
-        ensures zeros { result.zeros.now ≡ self.now.zeros.items }
-    {
-        Shared {
-            numbers: &self.numbers,
-            rows: self.rows,
-            players: self.players,
-            payoffs: &self.payoffs,
-            zeros: &self.zeros,
-        }
-    }
-}
-
-/// The number of the row of the profile with this place.
-fn number_in(choices: &[u32], place: u32) -> usize
-    ensures { result ≡ unwrap_or (slice_get choices.now place) (place + 1) }
-{
-    match choices.get(place as usize) {
-        Some(number) => *number as usize,
-        None => place as usize + 1,
-    }
-}
-
-/// The row with this number.
-fn row_at<'t>(
-    players: usize,
-    payoffs: &'t [Fraction],
-    zeros: &'t [Fraction],
-    number: usize,
-) -> &'t [Fraction]
-    requires { number * players ≤ length payoffs.now }
-    ensures { result.now ≡ kept_row players payoffs.entry.now zeros.entry.now number }
-{
-    if number == 0 {
-        zeros
-    } else {
-        &payoffs[(number - 1) * players..number * players]
-    }
-}
-
-impl<'t> Shared<'t> {
-    /// The row with this number.
-    pub(crate) fn row(self, number: usize) -> &'t [Fraction]
-        requires { number * self.players ≤ length self.payoffs.now }
-        ensures { result.now
-            ≡ kept_row self.entry.players self.entry.payoffs.now self.entry.zeros.now number }
-    {
-        row_at(self.players, self.payoffs, self.zeros, number)
-    }
+    ghost invariant = { λ r. AreNumbered r.profiles r.rows r.numbers.items };
 }
 
 impl Rows {
     /// Each profile has the row with its number. At 0 each player is paid zero. Without numbers the
     /// payoffs are those of the profiles in turn.
+    #[tactic(auto, using(crate::proofs::lemmas::tables::Rows::rows_made))]
     pub(crate) fn new(
         alloc: Global,
         players: usize,
@@ -127,22 +118,37 @@ impl Rows {
         choices: Vec<u32>,
     ) -> Result<Rows, AllocError>
         requires { HasRows players profiles payoffs.items choices.items }
-        ensures { IfOk result (λ rows. rows
-            ≡ kept_rows players profiles payoffs.items (no_pay players) choices.items) }
+        ensures { IfOk result
+            (λ rows. rows ≡ kept_rows players profiles payoffs.items choices.items) }
     {
-        let count = if choices.is_empty() { 0 } else { players };
-        let zeros = vec![in alloc; Fraction::zero(); count]?;
-        Ok(Rows {
+        let chosen = choices.len();
+        if players == 0 || chosen == 0 {
+            let rows = NumberedRows {
+                players,
+                zeros: Vec::new(alloc),
+                count: profiles as usize,
+                payoffs,
+            };
+            return Ok(Rows {
+                profiles,
+                rows,
+                numbers: Vec::new(alloc),
+            });
+        }
+        let rows = NumberedRows {
             players,
-            profiles,
+            zeros: vec![in alloc; Fraction::zero(); players]?,
+            count: payoffs.len() / players,
             payoffs,
-            choices,
-            zeros,
+        };
+        Ok(Rows {
+            profiles,
+            rows,
+            numbers: choices,
         })
     }
 
     /// How many profiles there are.
-    #[tactic(auto, using(crate::proofs::lemmas::tables::Rows::rows_counted))]
     pub(crate) fn len(&self) -> u32
         ensures { result ≡ length self.now }
     {
@@ -150,12 +156,15 @@ impl Rows {
     }
 
     /// The payoffs at the profile with this place, from 0.
+    #[tactic(auto, using(crate::proofs::lemmas::tables::Rows::numbers_chosen))]
     pub(crate) fn row(&self, place: u32) -> &[Fraction]
         requires { place < length self.now }
         ensures { slice_get self.now place ≡ Some result.now }
     {
-        let number = number_in(&self.choices, place);
-        row_at(self.players, &self.payoffs, &self.zeros, number)
+        match self.numbers.get(place as usize) {
+            Some(number) => self.rows.row(*number as usize),
+            None => self.rows.row(place as usize + 1),
+        }
     }
 
     /// The payoffs in the order of a file, if there are players and profiles do not share rows.
@@ -164,53 +173,32 @@ impl Rows {
         ensures { MatchResult result (λ payoffs. (payoffs.items ≡ flat_map (λ row. row) self)
             × AllByRecursion (λ row. 0 < length row) self) (λ rows. rows ≡ self) }
     {
-        if self.players == 0 || !self.choices.is_empty() {
+        let (players, chosen) = (self.rows.players(), self.numbers.len());
+        if players == 0 || chosen > 0 {
             return Err(self);
         }
-        Ok(self.payoffs)
+        Ok(self.rows.into_payoffs())
     }
 
-    /// The rows and their numbers, if profiles may share them.
-    #[tactic(auto, using(crate::proofs::lemmas::tables::Rows::are_shared))]
-    pub(crate) fn into_shared(self) -> Result<SharedRows, Rows>
-        ensures { MatchResult result (λ s. AreShared self
-            s.numbers.items s.players s.payoffs.items s.zeros.items s.rows) (λ rows. rows ≡ self) }
+    /// The rows and the number of one at each profile, if profiles may share them.
+    #[tactic(auto, using(crate::proofs::lemmas::tables::Rows::numbers_chosen))]
+    pub(crate) fn into_shared(self) -> Result<(NumberedRows, Vec<u32>), Rows>
+        ensures { MatchResult result (λ s. AreShared self s.0 s.1.items) (λ rows. rows ≡ self) }
     {
-        if self.choices.is_empty() || self.players == 0 {
+        if self.numbers.is_empty() {
             return Err(self);
         }
-        let Rows {
-            players,
-            payoffs,
-            choices,
-            zeros,
-            ..
-        } = self;
-        Ok(SharedRows {
-            numbers: choices,
-            rows: payoffs.len() / players + 1,
-            players,
-            payoffs,
-            zeros,
-        })
+        Ok((self.rows, self.numbers))
     }
 
-    /// The rows and their numbers, lent, if profiles may share them.
-    #[tactic(auto, using(crate::proofs::lemmas::tables::Rows::are_shared))]
-    pub(crate) fn shared(&self) -> Option<Shared<'_>>
-        ensures shared { IfSome result (λ s. AreShared self.now
-            s.numbers.now s.players s.payoffs.now s.zeros.now s.rows) }
-        ensures few { IfSome result (λ s. s.rows < 2 ^ 63) }
+    /// The same, lent.
+    #[tactic(auto, using(crate::proofs::lemmas::tables::Rows::numbers_chosen))]
+    pub(crate) fn shared(&self) -> Option<(&NumberedRows, &[u32])>
+        ensures { IfSome result (λ s. AreShared self.now s.0.now s.1.now) }
     {
-        if self.choices.is_empty() || self.players == 0 {
+        if self.numbers.is_empty() {
             return None;
         }
-        Some(Shared {
-            numbers: &self.choices,
-            rows: self.payoffs.len() / self.players + 1,
-            players: self.players,
-            payoffs: &self.payoffs,
-            zeros: &self.zeros,
-        })
+        Some((&self.rows, &self.numbers))
     }
 }

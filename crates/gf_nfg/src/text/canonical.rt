@@ -10,10 +10,10 @@ ghost use Rattle.gf_nfg.specs.inner.ReaderState.{content_of};
 ghost use Rattle.gf_nfg.specs.TableText.{SpellsTable, lines_text, table_text};
 ghost use Rattle.gf_nfg.specs.inner.TextParts.{row_text};
 
+use crate::parts::Parts;
 use crate::read::tell_nfg;
-use crate::reader::receive::Version;
+use crate::receive::Version;
 use crate::table::Table;
-use crate::table::parts::Parts;
 use crate::text::Text;
 use crate::text::pieces::TextPieces;
 use gf_token::{Fault, Why};

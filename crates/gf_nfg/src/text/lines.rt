@@ -1,17 +1,16 @@
 //! The lines of payoffs of a canonical text, one for each profile.
 
-ghost use Rattle.std.specs.Prelude.{◌≡◌, ℕ, ◌+◌, ◌*◌, ◌<◌, ◌≤◌, ◌^◌, ◌++◌, ◌∷◌, IfOk};
+ghost use Rattle.std.specs.Prelude.{◌≡◌, ◌+◌, ◌<◌, ◌≤◌, ◌^◌, ◌++◌, ◌∷◌, IfOk, get_or};
 ghost use Rattle.std.specs.Prelude.{MatchOption, OnErr, OnOk, Some, [], drop, length, map};
 ghost use Rattle.std.specs.Prelude.{slice_get, vec_capacity, vec_len};
 ghost use Rattle.std.specs.List.{AllByRecursion};
 ghost use Rattle.gf_fraction.specs.NumberText.{number_text};
-ghost use Rattle.gf_nfg.specs.Profiles.{numbers_from};
-ghost use Rattle.gf_nfg.specs.TableParts.{kept_row};
 ghost use Rattle.gf_nfg.specs.TableText.{lines_text};
-ghost use Rattle.gf_nfg.specs.inner.TextParts.{Keeps, line_text, lines_with, others_text, row_text};
+ghost use Rattle.gf_nfg.specs.inner.TextParts.{line_text, lines_with, row_text};
+ghost use Rattle.gf_token.specs.TextLayout.{Keeps, others_text};
 
 use crate::table::pieces::piece;
-use crate::table::rows::{Rows, Shared};
+use crate::table::rows::{NumberedRows, Rows};
 use gf_fraction::Fraction;
 use std::alloc::{AllocError, Global};
 use std::marker::Model;
@@ -29,28 +28,18 @@ fn write_others(payoffs: &[Fraction], out: &mut Vec<u8>) -> Result<(), AllocErro
     Ok(())
 }
 
-/// Appends the payoffs at one profile, with a space between any two.
+/// Appends the line of the payoffs at one profile, with a space between any two.
 #[tactic(auto, using(crate::proofs::lemmas::texts::Pieces::rows_spaced))]
-fn write_row(payoffs: &[Fraction], out: &mut Vec<u8>) -> Result<(), AllocError>
-    ensures text { OnOk result (out.new.items ≡ out.old.items ++ row_text payoffs.now) }
-    ensures kept { OnErr result (Keeps out.old.items out.new.items) }
-{
-    match payoffs.split_first() {
-        None => Ok(()),
-        Some((first, others)) => {
-            first.write(out)?;
-            write_others(others, out)?;
-            Ok(())
-        }
-    }
-}
-
-/// Appends the line of the payoffs at one profile.
 fn write_line(payoffs: &[Fraction], out: &mut Vec<u8>) -> Result<(), AllocError>
     ensures text { OnOk result (out.new.items ≡ out.old.items ++ line_text payoffs.now) }
     ensures kept { OnErr result (Keeps out.old.items out.new.items) }
 {
-    write_row(payoffs, out)?;
+    let Some((first, others)) = payoffs.split_first() else {
+        out.push(b'\n')?;
+        return Ok(());
+    };
+    first.write(out)?;
+    write_others(others, out)?;
     out.push(b'\n')?;
     Ok(())
 }
@@ -95,18 +84,14 @@ impl Lines {
         Ok(Lines { text, ends })
     }
 
-    /// The line of each row that profiles share, made in the order of the rows in memory.
+    /// The line of each row, made in the order of the rows in memory.
     #[tactic(auto, using(crate::proofs::lemmas::texts::SharedLines::lines_more))]
-    pub(crate) fn of_rows(alloc: Global, shared: Shared<'_>) -> Result<Lines, AllocError>
-        requires { (number : ℕ) → number < shared.rows
-            → number * shared.players ≤ length shared.payoffs.now }
-        ensures { IfOk result (λ lines. lines ≡ map (λ number. line_text
-            (kept_row shared.entry.players shared.entry.payoffs.now shared.entry.zeros.now number))
-            (numbers_from 0 shared.entry.rows)) }
+    pub(crate) fn of_rows(alloc: Global, rows: &NumberedRows) -> Result<Lines, AllocError>
+        ensures { IfOk result (λ lines. lines ≡ map line_text rows.now) }
     {
         let mut lines = Lines::none(alloc);
-        for number in 0..shared.rows {
-            lines = lines.with(shared.row(number))?;
+        for number in 0..rows.len() {
+            lines = lines.with(rows.row(number))?;
         }
         Ok(lines)
     }
@@ -181,20 +166,18 @@ impl Lines {
     }
 }
 
-/// Appends a line of payoffs for each profile, if profiles share rows. The line of a row is made
-/// once, and so is room for all lines, so a text that is too large is refused before it is begun.
-fn write_shared(shared: Shared<'_>, out: &mut Vec<u8>) -> Result<(), AllocError>
-    requires below { AllByRecursion (λ number. number < shared.rows) shared.numbers.now }
-    requires kept { (number : ℕ) → number < shared.rows
-        → number * shared.players ≤ length shared.payoffs.now }
-    ensures text { OnOk result (out.new.items ≡ out.old.items ++ lines_text (map row_text (map
-        (kept_row shared.entry.players shared.entry.payoffs.now shared.entry.zeros.now)
-        shared.entry.numbers.now))) }
+/// Appends the lines of the rows with these numbers. The line of a row is made once, and so is room
+/// for all lines, so a text that is too large is refused before it is begun.
+#[tactic(auto, using(crate::proofs::lemmas::texts::SharedLines::shared_lines))]
+fn write_shared(rows: &NumberedRows, numbers: &[u32], out: &mut Vec<u8>) -> Result<(), AllocError>
+    requires { AllByRecursion (λ number. number < length rows.now) numbers.now }
+    ensures text { OnOk result (out.new.items ≡ out.old.items
+        ++ lines_text (map row_text (map (λ n. get_or rows.now n []) numbers.now))) }
     ensures kept { OnErr result (Keeps out.old.items out.new.items) }
 {
-    let lines = Lines::of_rows(*out.allocator(), shared)?;
-    lines.reserve(shared.numbers, out)?;
-    lines.append(shared.numbers, out);
+    let lines = Lines::of_rows(*out.allocator(), rows)?;
+    lines.reserve(numbers, out)?;
+    lines.append(numbers, out);
     Ok(())
 }
 
@@ -205,8 +188,8 @@ pub(crate) fn write_rows(rows: &Rows, out: &mut Vec<u8>) -> Result<(), AllocErro
     ensures kept { OnErr result (Keeps out.old.items out.new.items) }
 {
     match rows.shared() {
-        Some(shared) if shared.rows <= shared.numbers.len() => {
-            return write_shared(shared, out);
+        Some((numbered, numbers)) if numbered.len() <= numbers.len() => {
+            return write_shared(numbered, numbers, out);
         }
         _ => {}
     }

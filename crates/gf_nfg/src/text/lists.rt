@@ -3,7 +3,7 @@
 ghost use Rattle.std.specs.Prelude.{◌≡◌, ◌+◌, ◌<◌, ◌≤◌, ◌^◌, ◌++◌, [], IfOk, OnErr, false, length};
 ghost use Rattle.std.specs.Prelude.{vec_capacity, vec_len};
 ghost use Rattle.gf_nfg.specs.inner.ListsLeft.{lists_left, size_of};
-ghost use Rattle.gf_nfg.specs.inner.TextParts.{Keeps};
+ghost use Rattle.gf_token.specs.TextLayout.{Keeps};
 
 use crate::table::strategies::Strategies;
 use gf_token::write_label;

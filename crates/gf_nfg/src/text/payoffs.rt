@@ -1,47 +1,42 @@
-//! Lines of payoffs, written into room that is known to be enough.
+//! Lines of payoffs.
 
-ghost use Rattle.std.specs.Prelude.{◌≡◌, ◌+◌, ◌<◌, ◌≤◌, ◌++◌, [], drop, length, vec_capacity};
+ghost use Rattle.std.specs.Prelude.{◌≡◌, ◌+◌, ◌<◌, ◌≤◌, ◌++◌, ◌∷◌, [], List, IfOk, OnErr, length};
+ghost use Rattle.std.specs.Prelude.{vec_capacity, vec_len};
+ghost use Rattle.gf_fraction.specs.Ratio.{Ratio};
 ghost use Rattle.gf_nfg.specs.inner.TextParts.{payoffs_text};
 
-use crate::text::write_payoff;
 use gf_fraction::Fraction;
-use std::alloc::Global;
+use std::alloc::AllocError;
 use std::marker::Model;
 
 /// The most bytes that a payoff takes, with the space or line feed after it.
 pub(crate) const MOST: usize = 81;
 
-/// Appends payoffs until `out` has `bytes` bytes: `width` to a line, but only `left` to the first
-/// one, which was begun before. Returns how many were appended, and how many the last line lacks.
-fn append_payoffs(
-    payoffs: &[Fraction],
+/// Appends a payoff, and a space or the line feed that ends its line. Lines have `width` payoffs,
+/// and this one lacks `left`. Returns how many are lacking then.
+#[tactic(auto, using(crate::proofs::lemmas::texts::PayoffLines::payoff_written))]
+#[inline(always)]
+pub(crate) fn write_payoff(
+    payoff: Fraction,
     width: usize,
     left: usize,
-    bytes: usize,
     out: &mut Vec<u8>,
-) -> (usize, usize)
-    requires room { 0 < length payoffs.now → bytes + 81 ≤ vec_capacity out.old }
-    ensures within { result.0 ≤ length payoffs.now }
-    ensures text { out.new.items ++ payoffs_text width result.1 (drop result.0 payoffs.now)
-        ≡ out.old.items ++ payoffs_text width left payoffs.now }
-    ensures whole { length out.new.items < bytes → result.0 ≡ length payoffs.now }
+) -> Result<usize, AllocError>
+    ensures text { IfOk result (λ next. (more : List Ratio)
+        → out.new.items ++ payoffs_text width next more
+        ≡ out.old.items ++ payoffs_text width left (payoff ∷ more)) }
     ensures longer { length out.old.items ≤ length out.new.items }
-    ensures room { vec_capacity out.old ≤ vec_capacity out.new }
+    ensures full { OnErr result (vec_capacity out.old < vec_len out.old + 81) }
+    ensures capacity { vec_capacity out.old ≤ vec_capacity out.new }
 {
-    let mut left = left;
-    for (place, payoff) in payoffs.iter().enumerate() {
-        if out.len() >= bytes {
-            return (place, left);
-        }
-        if left > 1 {
-            write_payoff(*payoff, b' ', out).unwrap();
-            left -= 1;
-        } else {
-            write_payoff(*payoff, b'\n', out).unwrap();
-            left = width;
-        }
+    payoff.write(out)?;
+    if left > 1 {
+        out.push(b' ')?;
+        Ok(left - 1)
+    } else {
+        out.push(b'\n')?;
+        Ok(width)
     }
-    (payoffs.len(), left)
 }
 
 /// Lines of payoffs that are still to be written.
@@ -68,13 +63,6 @@ impl Model for PayoffLines {
 }
 
 impl PayoffLines {
-    /// No lines.
-    pub(crate) fn none(alloc: Global) -> PayoffLines
-        ensures { result ≡ [] }
-    {
-        PayoffLines::new(Vec::new(alloc), 0)
-    }
-
     /// The lines of these payoffs, `width` to a line.
     pub(crate) fn new(payoffs: Vec<Fraction>, width: usize) -> PayoffLines
         ensures { result ≡ payoffs_text width width payoffs.items }
@@ -88,6 +76,7 @@ impl PayoffLines {
     }
 
     /// Appends lines until there are this many bytes, or up to a payoff more.
+    #[tactic(auto, using(crate::proofs::lemmas::texts::PayoffLines::payoffs_on))]
     pub(crate) fn append_until(&mut self, bytes: usize, out: &mut Vec<u8>)
         requires room { 0 < length self.old → bytes + 81 ≤ vec_capacity out.old }
         ensures text { out.new.items ++ self.new ≡ out.old.items ++ self.old }
@@ -95,9 +84,13 @@ impl PayoffLines {
         ensures longer { length out.old.items ≤ length out.new.items }
         ensures room { vec_capacity out.old ≤ vec_capacity out.new }
     {
-        let payoffs = &self.payoffs[self.written..];
-        let (written, left) = append_payoffs(payoffs, self.width, self.left, bytes, out);
-        self.written += written;
-        self.left = left;
+        while self.written < self.payoffs.len() {
+            if out.len() >= bytes {
+                return;
+            }
+            let payoff = self.payoffs[self.written];
+            self.left = write_payoff(payoff, self.width, self.left, out).unwrap();
+            self.written += 1;
+        }
     }
 }

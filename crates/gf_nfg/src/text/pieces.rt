@@ -62,26 +62,10 @@ impl TextPieces {
         }
     }
 
-    /// A text and, after it, the lines with these numbers. Room for all of it is made, so a text
-    /// that memory could not hold is refused; most of the room is never touched.
-    fn with_lines(text: Vec<u8>, lines: Lines, numbers: Vec<u32>) -> Result<TextPieces, AllocError>
-        requires { AllByRecursion (λ number. number < length lines) numbers.items }
-        ensures rest { IfOk result (λ t. t.rest ≡ text.items ++ lines_with lines numbers.items) }
-        ensures none { IfOk result (λ t. t.piece ≡ []) }
-    {
-        let mut piece = text;
-        lines.reserve(&numbers, &mut piece)?;
-        Ok(TextPieces {
-            piece,
-            begun: false,
-            lines,
-            numbers,
-            next: 0,
-        })
-    }
-
     /// A text and, after it, a line for each of these rows. A row that profiles share has its line
-    /// made once.
+    /// made once. Room for all of the text is made, so one that memory could not hold is refused;
+    /// most of the room is never touched.
+    #[tactic(auto, using(crate::proofs::lemmas::texts::SharedLines::shared_lines))]
     pub(crate) fn with_rows(
         alloc: Global,
         text: Vec<u8>,
@@ -90,15 +74,22 @@ impl TextPieces {
         ensures rest { IfOk result (λ t. t.rest ≡ text.items ++ lines_text (map row_text rows)) }
         ensures none { IfOk result (λ t. t.piece ≡ []) }
     {
+        let mut piece = text;
         match rows.into_shared() {
-            Ok(shared) => {
-                let lines = Lines::of_rows(alloc, shared.shared())?;
-                TextPieces::with_lines(text, lines, shared.numbers)
+            Ok((numbered, numbers)) => {
+                let lines = Lines::of_rows(alloc, &numbered)?;
+                lines.reserve(&numbers, &mut piece)?;
+                Ok(TextPieces {
+                    piece,
+                    begun: false,
+                    lines,
+                    numbers,
+                    next: 0,
+                })
             }
             Err(rows) => {
-                let mut whole = text;
-                write_rows(&rows, &mut whole)?;
-                Ok(TextPieces::of(whole))
+                write_rows(&rows, &mut piece)?;
+                Ok(TextPieces::of(piece))
             }
         }
     }

@@ -61,7 +61,7 @@ impl TextAndPayoffs {
             strategies: Strategies::new(alloc),
             written: ListsWritten::nothing(),
             ending: Vec::new(alloc),
-            payoffs: PayoffLines::none(alloc),
+            payoffs: PayoffLines::new(Vec::new(alloc), 0),
             piece: Vec::new(alloc),
         }
     }

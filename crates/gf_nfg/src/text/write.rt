@@ -7,7 +7,8 @@ ghost use Rattle.gf_token.specs.Label.{label_of};
 ghost use Rattle.gf_nfg.specs.Spellable.{IsSpellable};
 ghost use Rattle.gf_nfg.specs.Table.{IsTable};
 ghost use Rattle.gf_nfg.specs.TableText.{SpellsTable, list_text, quoted, table_text};
-ghost use Rattle.gf_nfg.specs.inner.TextParts.{Keeps, ending_text, first_line, front_text};
+ghost use Rattle.gf_nfg.specs.inner.TextParts.{ending_text, front_text};
+ghost use Rattle.gf_token.specs.TextLayout.{Keeps};
 ghost use Rattle.gf_nfg.specs.inner.TextParts.{heading_text, names_by};
 
 use crate::table::Table;
@@ -43,25 +44,16 @@ fn label_by(named: bool, label: Label<'_>) -> Label<'_>
     }
 }
 
-/// Appends the format, the title and the players.
-fn write_first_line(names: &Names, named: bool, out: &mut Vec<u8>) -> Result<(), AllocError>
-    ensures text { OnOk result
-        (out.new.items ≡ out.old.items ++ first_line (names_by named names.now)) }
-    ensures kept { OnErr result (Keeps out.old.items out.new.items) }
-{
-    out.extend_from_slice(b"NFG 1 R ")?;
-    write_label(label_by(named, names.title()), out)?;
-    out.push(b' ')?;
-    write_players(names, out)
-}
-
 /// Appends what stands before the strategies: the first line and a brace.
 pub(crate) fn write_front(names: &Names, named: bool, out: &mut Vec<u8>) -> Result<(), AllocError>
     ensures text { OnOk result
         (out.new.items ≡ out.old.items ++ front_text (names_by named names.now)) }
     ensures kept { OnErr result (Keeps out.old.items out.new.items) }
 {
-    write_first_line(names, named, out)?;
+    out.extend_from_slice(b"NFG 1 R ")?;
+    write_label(label_by(named, names.title()), out)?;
+    out.push(b' ')?;
+    write_players(names, out)?;
     out.extend_from_slice(b"\n{ ")?;
     Ok(())
 }

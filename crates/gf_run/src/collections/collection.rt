@@ -1,24 +1,49 @@
-//! What the program does for the files of a collection.
+//! What the program does for the files of a collection, and what is done with them.
 
-ghost use Rattle.std.specs.Prelude.{◌≡◌, ◌++◌, IfOk, OnOk, codes, map};
+ghost use Rattle.std.specs.Prelude.{◌≡◌, ◌++◌, IfOk, OnOk, map};
 ghost use Rattle.std.specs.String.{string_bytes};
-ghost use Rattle.gf_run.specs.Collected.{AreToldOf, IsToldOfPaths, PerformsAll, list_name};
-ghost use Rattle.gf_run.specs.Collected.{line_without_games, without_games};
-ghost use Rattle.gf_run.specs.Task.{Does};
+ghost use Rattle.gf_run.specs.CollectionRun.{Does};
+ghost use Rattle.gf_run.specs.Performs.{AreToldOf, IsToldOfPaths, PerformsAll, list_name};
+ghost use Rattle.gf_run.specs.Performs.{line_without_games, without_games};
+ghost use Rattle.gf_run.specs.Session.{IsSame, world_of};
 
-use crate::collections::named_fault::{after_name, tell_of};
+use crate::collections::file::CollectionFile;
+use crate::collections::folders::Repeats;
+use crate::collections::line::FileLine;
 use crate::collections::paths::files_at;
 use crate::collections::progress::Progress;
-use crate::collections::task::{Task, run_task};
-use crate::explain::cause::Cause;
+use crate::explain::Cause;
 use crate::fault::RunFault;
-use crate::jobs::ending::tell;
+use crate::jobs::ending::{after_name, tell, tell_of};
+use crate::jobs::session::Session;
 use crate::opening::inputs::Inputs;
 use crate::streams::last_error::LastError;
 use crate::streams::sink::{Sink, push_all};
-use gf_words::{Input, Paths};
+use gf_canon::Names;
+use gf_words::{Input, LineEnd, Paths};
 use std::alloc::{AllocError, Global};
 use std::rt::Files;
+
+/// What is done with the files of a collection.
+#[derive(Clone, Copy)]
+pub enum Task {
+    /// This line is written about each.
+    Lines(FileLine),
+    /// It is said which of them are the same game, with names or without; lines end so.
+    Duplicates(Names, LineEnd),
+    /// The canonical text of each, with names or without, is put in its place.
+    Rewrites(Names),
+}
+
+impl Task {
+    /// Whether a file is kept that a folder has by two names.
+    pub fn repeats(self) -> Repeats {
+        match self {
+            Task::Duplicates(..) => Repeats::PassedOver,
+            Task::Lines(_) | Task::Rewrites(_) => Repeats::Kept,
+        }
+    }
+}
 
 /// What a list of names is called.
 fn list_name(list: &Input) -> &str
@@ -78,52 +103,38 @@ fn tell_without_games<E: Sink>(alloc: Global, folders: &[String], errors: &mut E
     }
 }
 
-/// Does a task for the files of a collection, and returns the exit status.
-///
-/// All paths are followed before a file is opened. If memory runs out then, E19 is reported; if a
-/// list of names cannot be read, E20 is reported after its name.
-pub(crate) fn perform_all<R, I, P, W, E>(
-    rt: &R,
-    inputs: &mut I,
-    paths: &Paths,
-    task: Task,
-    explain: bool,
-    progress: &mut P,
-    output: &mut W,
-    errors: &mut E,
-) -> u8
-where
-    R: Files + AllocGlobal,
-    I: Inputs,
-    P: Progress,
-    W: Sink + LastError,
-    E: Sink,
-    ensures { PerformsAll I.opener E.writer
-        (Does I.opener I.Opened.reader W.writer E.writer explain task)
-        paths.now
-        (record { inputs = inputs.old; output = output.old; errors = errors.old; status = 0 })
-        (record {
-          inputs = inputs.new;
-          output = output.new;
-          errors = errors.new;
-          status = result;
-        }) }
-{
-    match files_at(rt, inputs, paths, task.repeats()) {
-        Ok(found) => {
-            tell_without_games(rt.alloc(), found.without_games.as_slice(), errors);
-            let files = found.files.as_slice();
-            run_task(
-                rt.alloc(),
-                inputs,
-                files,
-                task,
-                explain,
-                progress,
-                output,
-                errors,
-            )
+impl<I: Inputs, P: Progress, W: Sink + LastError, E: Sink> Session<'_, '_, '_, '_, I, P, W, E> {
+    /// Does this for files, and returns the exit status.
+    pub(crate) fn run_task(&mut self, files: &[CollectionFile], task: Task) -> u8
+        ensures same { IsSame self.old self.new }
+        ensures done { Does I.opener I.Opened.reader W.writer E.writer self.old.explain task
+            files.now result (world_of self.old) (world_of self.new) }
+    {
+        match task {
+            Task::Lines(line) => self.run_lines(files, line),
+            Task::Duplicates(names, end) => self.run_duplicates(files, names, end),
+            Task::Rewrites(names) => self.run_rewrites(files, names),
         }
-        Err(fault) => tell_unlisted(rt.alloc(), paths, &fault, errors),
+    }
+
+    /// Does a task for the files of a collection, and returns the exit status.
+    ///
+    /// All paths are followed before a file is opened. If memory runs out then, E19 is reported; if
+    /// a list of names cannot be read, E20 is reported after its name.
+    pub(crate) fn perform_all<R>(&mut self, rt: &R, paths: &Paths, task: Task) -> u8
+    where
+        R: Files + AllocGlobal,
+        ensures same { IsSame self.old self.new }
+        ensures performed { PerformsAll I.opener E.writer
+            (Does I.opener I.Opened.reader W.writer E.writer self.old.explain task)
+            paths.now result (world_of self.old) (world_of self.new) }
+    {
+        match files_at(rt, self.inputs, paths, task.repeats()) {
+            Ok(found) => {
+                tell_without_games(self.alloc, found.without_games.as_slice(), self.errors);
+                self.run_task(found.files.as_slice(), task)
+            }
+            Err(fault) => tell_unlisted(self.alloc, paths, &fault, self.errors),
+        }
     }
 }

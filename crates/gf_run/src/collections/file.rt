@@ -1,12 +1,15 @@
 //! The files of a collection, and how they are opened.
 
 ghost use Rattle.std.specs.Prelude.{◌≡◌, MatchResult};
-ghost use Rattle.gf_run.specs.CollectionRun.{IsFileNotOpened, IsFileOpened};
-ghost use Rattle.gf_run.specs.NamedFault.{name_of};
+ghost use Rattle.gf_run.specs.Kept.{bytes_kept, kept_at_first, source_of};
+ghost use Rattle.gf_run.specs.Opening.{IsFileNotOpened, IsFileOpened};
+ghost use Rattle.gf_run.specs.Reports.{name_of};
 
-use crate::explain::cause::Cause;
-use crate::opening::inputs::{Inputs, open_input};
+use crate::explain::Cause;
+use crate::opening::inputs::{Inputs, open_kept};
+use crate::streams::kept::Kept;
 use gf_words::Input;
+use std::alloc::Global;
 
 /// A file of a collection.
 #[derive(Drop)]
@@ -28,18 +31,22 @@ pub(crate) fn name_of(file: &CollectionFile) -> &str
     }
 }
 
-/// Opens a file, or says why it cannot be opened.
+/// Opens a file whose bytes are kept, as they pass, if `keeps` is true; or says why it cannot be
+/// opened.
 pub(crate) fn open_file<I: Inputs>(
+    alloc: Global,
     inputs: &mut I,
     file: &CollectionFile,
-) -> Result<I::Opened, Cause>
+    keeps: bool,
+) -> Result<Kept<I::Opened>, Cause>
     ensures { MatchResult result
-        (λ opened. IsFileOpened I.opener file.now inputs.old opened inputs.new)
+        (λ kept. IsFileOpened I.opener file.now inputs.old (source_of kept) inputs.new
+        × (bytes_kept kept ≡ kept_at_first keeps))
         (λ _. IsFileNotOpened I.opener file.now inputs.old inputs.new) }
 {
     match file {
-        CollectionFile::Input(input) => match open_input(inputs, input) {
-            Ok(opened) => Ok(opened),
+        CollectionFile::Input(input) => match open_kept(alloc, inputs, input, keeps) {
+            Ok(kept) => Ok(kept),
             Err(error) => Err(Cause::Opening(error)),
         },
         CollectionFile::NotText(_) => Err(Cause::Transfer(None)),

@@ -36,26 +36,6 @@ fn is_game_file(name: &str) -> bool {
 /// Which file or folder something is: its device, and its number there.
 type Identity = (u64, u64);
 
-/// What stands at a path.
-enum Found {
-    Folder(Identity),
-    File(Identity),
-    /// A pipe, a socket or a device, which a folder may have among its files.
-    Other,
-    /// Nothing that can be seen.
-    Nothing,
-}
-
-/// What a path names, through links.
-fn found_at<R: Files>(rt: &R, path: &str) -> Found {
-    match fs::metadata(rt, path) {
-        Ok(found) if found.is_dir() => Found::Folder((found.dev(), found.ino())),
-        Ok(found) if found.is_file() => Found::File((found.dev(), found.ino())),
-        Ok(_) => Found::Other,
-        Err(_) => Found::Nothing,
-    }
-}
-
 /// The files of a collection that are kept, as far as they are found.
 #[derive(Drop)]
 pub struct KeptFiles {
@@ -217,17 +197,19 @@ fn is_kept<R: Files + AllocGlobal>(
         return Ok(true);
     };
     let path = path.as_str();
-    match found_at(rt, path) {
-        Found::Folder(folder) => {
-            Ok(search.folders.insert(folder)? && !open_folder(rt, path, &mut search.waiting)?)
-        }
-        Found::File(file) if is_named || is_game_file(path) => {
-            search.has_games = true;
-            Ok(kept.is_new(file)? || is_named)
-        }
-        Found::Nothing => Ok(is_named || is_game_file(path)),
-        Found::File(_) | Found::Other => Ok(is_named),
+    let may_be_game = is_named || is_game_file(path);
+    let Ok(found) = fs::metadata(rt, path) else {
+        return Ok(may_be_game);
+    };
+    let identity = (found.dev(), found.ino());
+    if found.is_dir() {
+        return Ok(search.folders.insert(identity)? && !open_folder(rt, path, &mut search.waiting)?);
     }
+    if found.is_file() && may_be_game {
+        search.has_games = true;
+        return Ok(kept.is_new(identity)? || is_named);
+    }
+    Ok(is_named)
 }
 
 /// A file that was named; `-` is standard input.

@@ -1,9 +1,13 @@
 //! The names of files, in groups with the same hash.
 
-ghost use Rattle.std.specs.Prelude.{◌≡◌, List, [], ◌∷◌, ◌++◌, map, IfOk, OnOk};
+ghost use Rattle.std.specs.Prelude.{◌≡◌, List, [], ◌∷◌, ◌++◌, map, MatchResult, OnOk};
+ghost use Rattle.std.specs.Prelude.{if◌then◌else◌};
 ghost use Rattle.gf_run.specs.Duplicates.{HashedFile, IsKeptOf, KeptNames};
-ghost use Rattle.gf_run.specs.Duplicates.{duplicates, empty_line, groups_text, name_lines};
+ghost use Rattle.gf_run.specs.Duplicates.{are_apart, duplicates, groups_text, name_lines};
+ghost use Rattle.gf_run.specs.NameText.{end_text};
 
+use crate::fault::RunFault;
+use crate::texts::answer::{Answer, answer_with};
 use crate::texts::name::{end_text, push_name_line};
 use gf_words::LineEnd;
 use indexmap::IndexSet;
@@ -40,12 +44,17 @@ fn push_names(text: &mut Vec<u8>, names: &[&str], end: LineEnd) -> Result<(), Al
     Ok(())
 }
 
-/// Appends a line for each name, after an empty line unless the text is empty.
-fn push_group(text: &mut Vec<u8>, names: &[&str], end: LineEnd) -> Result<(), AllocError>
-    ensures { OnOk result (text.new.items ≡ text.old.items
-        ++ empty_line end text.old.items ++ name_lines end (map (λ name. name.now) names.now)) }
+/// Appends a line for each name, after an empty line unless these are the first ones.
+fn push_group(
+    text: &mut Vec<u8>,
+    names: &[&str],
+    end: LineEnd,
+    first: bool,
+) -> Result<(), AllocError>
+    ensures { OnOk result (text.new.items ≡ text.old.items ++ (if first then [] else end_text end)
+        ++ name_lines end (map (λ name. name.now) names.now)) }
 {
-    if !text.is_empty() {
+    if !first {
         text.extend_from_slice(end_text(end))?;
     }
     push_names(text, names, end)
@@ -75,18 +84,23 @@ impl<'a> Groups<'a> {
         Ok(())
     }
 
-    /// The names of each group of two files or more, a line for each, with an empty line between
-    /// two groups.
-    pub fn text(&self, alloc: Global, end: LineEnd) -> Result<Vec<u8>, AllocError>
-        ensures { IfOk result (λ text. (files : List HashedFile) → IsKeptOf files self.now
-            → text.items ≡ groups_text end (duplicates files)) }
+    /// Whether no two files have one hash; and the names of each group of two files or more, a line
+    /// for each, with an empty line between two groups.
+    pub fn text(&self, alloc: Global, end: LineEnd) -> Result<Answer<bool>, RunFault>
+        ensures { (files : List HashedFile) → IsKeptOf files self.now → MatchResult result
+            (λ answer. (answer.value ≡ are_apart files)
+            × (answer.text.rest ≡ groups_text end (duplicates files)))
+            (λ fault. fault ≡ RunFault.Memory) }
     {
         let mut text = Vec::new(alloc);
+        let mut apart = true;
         for group in &self.names {
-            if group.len() > 1 {
-                push_group(&mut text, group.as_slice(), end)?;
+            if group.len() < 2 {
+                continue;
             }
+            push_group(&mut text, group.as_slice(), end, apart)?;
+            apart = false;
         }
-        Ok(text)
+        Ok(answer_with(alloc, apart, text))
     }
 }

@@ -1,19 +1,18 @@
 //! The line about one of several files, and the run that writes it.
 
-ghost use Rattle.std.specs.Prelude.{◌≡◌, ◌++◌, IfErr, IfOk, codes};
-ghost use Rattle.gf_run.specs.FileKinds.{kind_line};
-ghost use Rattle.gf_run.specs.HashText.{IsFaultOfFile};
-ghost use Rattle.gf_run.specs.LineText.{IsLineOf};
+ghost use Rattle.std.specs.Prelude.{◌≡◌, ◌++◌, IfOk, MatchResult, codes};
+ghost use Rattle.gf_run.specs.LineText.{IsHashOf, IsLineOf, hash_line, kind_line};
+ghost use Rattle.gf_run.specs.NoAnswer.{IsFaultOfFile};
 ghost use Rattle.gf_run.specs.Run.{RunsLine};
 
-use crate::collections::hash::{hash_line, hash_of};
-use crate::fault::{RunFault, Which};
-use crate::streams::sink::{Sink, push_all};
+use crate::fault::{RunFault, Which, refused};
+use crate::streams::sink::Sink;
 use crate::streams::source::{Source, load};
+use crate::texts::answer::{Answer, answer_with, write_answer};
 use crate::texts::game::{are_canonical, kind_line, kind_of};
 use crate::texts::joined::joined;
-use crate::texts::name::push_name_line;
-use gf_canon::{FileKind, Names};
+use crate::texts::name::{end_text, mark, push_name, push_name_line};
+use gf_canon::{FileKind, Names, canonical_text, sha256_of};
 use gf_words::LineEnd;
 use std::alloc::{AllocError, Global};
 
@@ -28,14 +27,6 @@ pub enum FileLine {
     NotCanonical(Names),
 }
 
-/// What is written about a file.
-#[derive(Drop)]
-struct Said {
-    text: Vec<u8>,
-    /// Whether nothing is against the file.
-    good: bool,
-}
-
 /// The line of a kind after the name of the file.
 fn named_kind(alloc: Global, name: &str, kind: FileKind) -> Result<Vec<u8>, AllocError>
     ensures { IfOk result (λ line.
@@ -46,17 +37,40 @@ fn named_kind(alloc: Global, name: &str, kind: FileKind) -> Result<Vec<u8>, Allo
     Ok(line)
 }
 
+/// The hash of these bytes' canonical text: SHA-256 (FIPS 180-4).
+pub(crate) fn hash_of(alloc: Global, bytes: &[u8], names: Names) -> Result<[u8; 32], RunFault>
+    ensures { MatchResult result (λ hash. IsHashOf names bytes.now hash) (IsFaultOfFile bytes.now) }
+{
+    match canonical_text(alloc, bytes, names) {
+        Ok(text) => Ok(sha256_of(text)),
+        Err(fault) => Err(refused(fault)),
+    }
+}
+
+/// The line of a hash: in hexadecimal, two spaces and the name of the file, as `sha256sum` writes
+/// it.
+fn hash_line(alloc: Global, name: &str, end: LineEnd, hash: [u8; 32]) -> Result<Vec<u8>, AllocError>
+    ensures { IfOk result (λ line. line.items ≡ hash_line end name.now hash) }
+{
+    let digits = hex::encode(alloc, hash)?;
+    let mut line = Vec::new(alloc);
+    line.extend_from_slice(mark(name, end))?;
+    line.extend_from_slice(digits.as_bytes())?;
+    line.extend_from_slice(b"  ")?;
+    push_name(&mut line, name, end)?;
+    line.extend_from_slice(end_text(end))?;
+    Ok(line)
+}
+
 /// What is said of a kind.
-fn said_of_kind(alloc: Global, bytes: &[u8], name: &str) -> Result<Said, RunFault>
-    ensures said { IfOk result (λ said.
-        IsLineOf FileLine.Kind name.now said.good bytes.now said.text.items) }
-    ensures fault { IfErr result (IsFaultOfFile bytes.now) }
+fn said_of_kind(alloc: Global, bytes: &[u8], name: &str) -> Result<Answer<bool>, RunFault>
+    ensures { MatchResult result
+        (λ answer. IsLineOf FileLine.Kind name.now answer.value bytes.now answer.text.rest)
+        (IsFaultOfFile bytes.now) }
 {
     let kind = kind_of(alloc, bytes)?;
-    Ok(Said {
-        text: named_kind(alloc, name, kind)?,
-        good: true,
-    })
+    let line = named_kind(alloc, name, kind)?;
+    Ok(answer_with(alloc, true, line))
 }
 
 /// What is said of a hash.
@@ -66,37 +80,45 @@ fn said_of_hash(
     name: &str,
     names: Names,
     end: LineEnd,
-) -> Result<Said, RunFault>
-    ensures said { IfOk result (λ said.
-        IsLineOf (FileLine.Hash names end) name.now said.good bytes.now said.text.items) }
-    ensures fault { IfErr result (IsFaultOfFile bytes.now) }
+) -> Result<Answer<bool>, RunFault>
+    ensures { MatchResult result
+        (λ answer. IsLineOf (FileLine.Hash names end) name.now answer.value bytes.now answer.text.rest)
+        (IsFaultOfFile bytes.now) }
 {
     let hash = hash_of(alloc, bytes, names)?;
-    Ok(Said {
-        text: hash_line(alloc, name, end, hash)?,
-        good: true,
-    })
+    let line = hash_line(alloc, name, end, hash)?;
+    Ok(answer_with(alloc, true, line))
 }
 
 /// What is said of a file that should be its own canonical text.
-fn said_of_canon(alloc: Global, bytes: &[u8], name: &str, names: Names) -> Result<Said, RunFault>
-    ensures said { IfOk result (λ said.
-        IsLineOf (FileLine.NotCanonical names) name.now said.good bytes.now said.text.items) }
-    ensures fault { IfErr result (IsFaultOfFile bytes.now) }
+fn said_of_canon(
+    alloc: Global,
+    bytes: &[u8],
+    name: &str,
+    names: Names,
+) -> Result<Answer<bool>, RunFault>
+    ensures { MatchResult result
+        (λ answer. IsLineOf (FileLine.NotCanonical names) name.now answer.value bytes.now answer.text.rest)
+        (IsFaultOfFile bytes.now) }
 {
     let good = are_canonical(alloc, bytes, names)?;
     let mut text = Vec::new(alloc);
     if !good {
         push_name_line(&mut text, name, LineEnd::LineFeed)?;
     }
-    Ok(Said { text, good })
+    Ok(answer_with(alloc, good, text))
 }
 
 /// What is written about the file of this name, which has these bytes.
-fn said_of(alloc: Global, bytes: &[u8], name: &str, line: FileLine) -> Result<Said, RunFault>
-    ensures said { IfOk result (λ said.
-        IsLineOf line name.now said.good bytes.now said.text.items) }
-    ensures fault { IfErr result (IsFaultOfFile bytes.now) }
+fn said_of(
+    alloc: Global,
+    bytes: &[u8],
+    name: &str,
+    line: FileLine,
+) -> Result<Answer<bool>, RunFault>
+    ensures { MatchResult result
+        (λ answer. IsLineOf line name.now answer.value bytes.now answer.text.rest)
+        (IsFaultOfFile bytes.now) }
 {
     match line {
         FileLine::Kind => said_of_kind(alloc, bytes, name),
@@ -132,7 +154,5 @@ pub fn run_line<R: Source, W: Sink>(
         output.old output.new }
 {
     let bytes = load(alloc, input, Which::Only)?;
-    let said = said_of(alloc, bytes.as_slice(), name, line)?;
-    push_all(output, said.text.as_slice())?;
-    Ok(said.good)
+    write_answer(said_of(alloc, bytes.as_slice(), name, line), output)
 }

@@ -1,104 +1,70 @@
 //! The run that writes a line about each of several files.
 
-ghost use Rattle.std.specs.Prelude.{◌≡◌, MatchResult};
-ghost use Rattle.gf_run.specs.FileLines.{IsCutOff, Step, WritesAll};
+ghost use Rattle.std.specs.Prelude.{MatchResult};
+ghost use Rattle.gf_run.specs.CollectionRun.{IsCutOff, WritesAll, WritesNext};
+ghost use Rattle.gf_run.specs.Session.{IsSame, world_of};
 
 use crate::collections::file::{CollectionFile, name_of, open_file};
 use crate::collections::line::{FileLine, run_line};
-use crate::collections::named_fault::{tell_of, tell_unopened_of};
 use crate::collections::progress::Progress;
-use crate::explain::cause::cause_of;
+use crate::explain::cause_of;
 use crate::fault::{RunFault, answer_status};
-use crate::jobs::ending::tell_of_file;
+use crate::jobs::ending::{tell_of, tell_of_file, tell_unopened_of};
+use crate::jobs::session::Session;
 use crate::opening::inputs::Inputs;
-use crate::streams::kept::Kept;
 use crate::streams::last_error::LastError;
 use crate::streams::sink::Sink;
-use std::alloc::Global;
 
-/// Writes the line of the next file, or reports its fault, and returns the worst status so far.
-/// After a fault of the output, which ends the run, it is the error.
-fn write_next<I: Inputs, W: Sink + LastError, E: Sink>(
-    alloc: Global,
-    inputs: &mut I,
-    file: &CollectionFile,
-    line: FileLine,
-    explain: bool,
-    worst: u8,
-    output: &mut W,
-    errors: &mut E,
-) -> Result<u8, u8>
-    ensures { MatchResult result
-        (λ status. Step I.opener I.Opened.reader W.writer E.writer explain line file.now
-        (record { inputs = inputs.old; output = output.old; errors = errors.old; status = worst })
-        (record {
-          inputs = inputs.new;
-          output = output.new;
-          errors = errors.new;
-          status = status;
-        }))
-        (λ status. IsCutOff I.opener I.Opened.reader W.writer E.writer explain line file.now
-        (record { inputs = inputs.old; output = output.old; errors = errors.old; status = worst })
-        (record {
-          inputs = inputs.new;
-          output = output.new;
-          errors = errors.new;
-          status = status;
-        })) }
-{
-    let name = name_of(file);
-    let opened = match open_file(inputs, file) {
-        Ok(opened) => opened,
-        Err(cause) => return Ok(worst.max(tell_unopened_of(alloc, &cause, name, explain, errors))),
-    };
-    let mut source = Kept::new(alloc, opened, explain);
-    let fault = match run_line(alloc, &mut source, name, line, output) {
-        Ok(good) => return Ok(worst.max(answer_status(good))),
-        Err(fault) => fault,
-    };
-    let cause = cause_of(&fault, &source, output);
-    let kept = source.bytes();
-    if fault == RunFault::Write {
-        return Err(worst.max(tell_of_file(alloc, &fault, &cause, name, kept, errors)));
-    }
-    Ok(worst.max(tell_of(alloc, &fault, &cause, name, kept, errors)))
-}
-
-/// Writes a line about each file, in their order, and returns the exit status: the worst of all
-/// files, where a file has 1 if something is against it, as `run_line` says, or the status of its
-/// fault.
-///
-/// Each file is opened, read and freed before the next one. A file that is refused, or cannot be
-/// opened or read, has no line; its fault is written to standard error after its name, and
-/// explained if `explain` is true, and the run goes on. If the output fails, E21 is reported, and
-/// the run ends. `progress` is told of each file that is done.
-pub fn run_lines<I: Inputs, P: Progress, W: Sink + LastError, E: Sink>(
-    alloc: Global,
-    inputs: &mut I,
-    files: &[CollectionFile],
-    line: FileLine,
-    explain: bool,
-    progress: &mut P,
-    output: &mut W,
-    errors: &mut E,
-) -> u8
-    ensures { WritesAll I.opener I.Opened.reader W.writer E.writer explain line files.now
-        (record { inputs = inputs.old; output = output.old; errors = errors.old; status = 0 })
-        (record {
-          inputs = inputs.new;
-          output = output.new;
-          errors = errors.new;
-          status = result;
-        }) }
-{
-    let mut worst = 0;
-    for file in files {
-        match write_next(alloc, inputs, file, line, explain, worst, output, errors) {
-            Ok(status) => worst = status,
-            Err(status) => return status,
+impl<I: Inputs, P: Progress, W: Sink + LastError, E: Sink> Session<'_, '_, '_, '_, I, P, W, E> {
+    /// Writes the line of the next file, or reports its fault, and returns the status. After a fault
+    /// of the output, which ends the run, it is the error.
+    fn write_next(&mut self, file: &CollectionFile, line: FileLine) -> Result<u8, u8>
+        ensures same { IsSame self.old self.new }
+        ensures next { MatchResult result
+            (λ status. WritesNext I.opener I.Opened.reader W.writer E.writer self.old.explain line
+            file.now status (world_of self.old) (world_of self.new))
+            (λ status. IsCutOff I.opener I.Opened.reader W.writer E.writer self.old.explain line
+            file.now status (world_of self.old) (world_of self.new)) }
+    {
+        let (alloc, explain, name) = (self.alloc, self.explain, name_of(file));
+        let mut source = match open_file(alloc, self.inputs, file, explain) {
+            Ok(source) => source,
+            Err(cause) => return Ok(tell_unopened_of(alloc, &cause, name, explain, self.errors)),
+        };
+        let fault = match run_line(alloc, &mut source, name, line, self.output) {
+            Ok(good) => return Ok(answer_status(good)),
+            Err(fault) => fault,
+        };
+        let cause = cause_of(&fault, &source, self.output);
+        let kept = source.bytes();
+        if fault == RunFault::Write {
+            return Err(tell_of_file(alloc, &fault, &cause, name, kept, self.errors));
         }
-        progress.step(files.len());
+        Ok(tell_of(alloc, &fault, &cause, name, kept, self.errors))
     }
-    progress.end();
-    worst
+
+    /// Writes a line about each file, in their order, and returns the exit status: the worst of all
+    /// files, where a file has 1 if something is against it, as `run_line` says, or the status of its
+    /// fault.
+    ///
+    /// Each file is opened, read and freed before the next one. A file that is refused, or cannot be
+    /// opened or read, has no line; its fault is written to standard error after its name, and
+    /// explained if `explain` is true, and the run goes on. If the output fails, E21 is reported, and
+    /// the run ends. `progress` is told of each file that is done.
+    pub fn run_lines(&mut self, files: &[CollectionFile], line: FileLine) -> u8
+        ensures same { IsSame self.old self.new }
+        ensures all { WritesAll I.opener I.Opened.reader W.writer E.writer self.old.explain line
+            files.now result (world_of self.old) (world_of self.new) }
+    {
+        let mut worst: u8 = 0;
+        for file in files {
+            match self.write_next(file, line) {
+                Ok(status) => worst = worst.max(status),
+                Err(status) => return worst.max(status),
+            }
+            self.progress.step(files.len());
+        }
+        self.progress.end();
+        worst
+    }
 }

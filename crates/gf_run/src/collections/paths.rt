@@ -2,8 +2,7 @@
 
 ghost use Rattle.std.specs.Prelude.{◌≡◌, ◌∷◌, [], IfOk, map};
 ghost use Rattle.std.specs.String.{string_bytes};
-ghost use Rattle.gf_run.specs.Collected.{AreFoldersOf, ArePathsOpened, AreSomeOf, IsListOpened};
-ghost use Rattle.gf_run.specs.Collected.{IsOfPaths};
+ghost use Rattle.gf_run.specs.Performs.{AreFoldersOf, ArePathsOpened, AreSomeOf, IsOfPaths};
 
 use crate::collections::file::CollectionFile;
 use crate::collections::folders::{KeptFiles, Repeats, is_whole, push_files, push_listed};
@@ -27,7 +26,7 @@ fn names_in<R: AllocGlobal, I: Inputs>(
     list: &Input,
     end: LineEnd,
 ) -> Result<Vec<Vec<u8>>, RunFault>
-    ensures { IsListOpened I.opener list.now inputs.old inputs.new }
+    ensures { ArePathsOpened I.opener (Paths.List list.now end) inputs.old inputs.new }
 {
     let input = match open_input(inputs, list) {
         Ok(input) => input,

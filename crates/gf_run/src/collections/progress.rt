@@ -1,15 +1,9 @@
 //! How many files are done, shown on a terminal while a long run goes on.
 
-ghost use Rattle.std.specs.Prelude.{◌≡◌, None, if◌then◌else◌};
-ghost use Rattle.gf_run.specs.Erasing.{held_by};
-
+use crate::streams::erasing::ERASE;
 use gf_explain::Line;
-use std::io;
 use std::io::Write;
 use std::time::{Clock, Instant};
-
-/// What erases the line of a terminal.
-const ERASE: &[u8] = b"\r\x1b[K";
 
 /// How long nothing is shown at first, and then how often something is, in milliseconds.
 const PAUSE: u128 = 200;
@@ -51,7 +45,7 @@ impl<'a, R: Clock, W: Write> Shown<'a, R, W> {
     /// Shows how many are done.
     fn show(&mut self, all: usize) {
         let mut line = Line::new();
-        line.push(b"\r\x1b[K");
+        line.push(ERASE);
         line.push_number(self.done);
         line.push(b" of ");
         line.push_number(all);
@@ -79,48 +73,5 @@ impl<R: Clock, W: Write> Progress for Shown<'_, R, W> {
         if self.last.is_some() {
             let _ = self.terminal.write(ERASE);
         }
-    }
-}
-
-/// A writer to a terminal that erases what is in a line before it begins one.
-#[derive(Drop)]
-pub struct Erasing<W> {
-    terminal: W,
-    /// Whether there may be something to erase.
-    erases: bool,
-    /// Whether a line begins.
-    begins: bool,
-}
-
-impl<W: Write> Erasing<W> {
-    /// Erases nothing unless `erases` is true.
-    // No edit: it puts parts together.
-    pub fn new(terminal: W, erases: bool) -> Erasing<W>
-        ensures { held_by W.contents result ≡ (if erases then None else W.contents terminal) }
-    {
-        Erasing {
-            terminal,
-            erases,
-            begins: true,
-        }
-    }
-}
-
-impl<W: Write> Write for Erasing<W> {
-    ghost contents = { held_by W.contents };
-
-    fn write(&mut self, buf: &[u8]) -> io::Result<usize> {
-        if self.erases && self.begins {
-            let _ = self.terminal.write(ERASE);
-        }
-        let count = self.terminal.write(buf)?;
-        if count > 0 {
-            self.begins = buf[count - 1] == b'\n';
-        }
-        Ok(count)
-    }
-
-    fn flush(&mut self) -> io::Result<()> {
-        self.terminal.flush()
     }
 }

@@ -1,14 +1,16 @@
 //! The run that puts the canonical texts of files in their place.
 
 ghost use Rattle.std.specs.Prelude.{◌≡◌};
-ghost use Rattle.gf_run.specs.Rewritten.{IsReplacedBy, IsRewritten, Rewrites, RewritesAll, Step};
-ghost use Rattle.gf_run.specs.Rewritten.{unreplaced_fault, without_cause};
+ghost use Rattle.gf_run.specs.CollectionRun.{IsReplacedBy, IsRewritten, Rewrites, RewritesAll};
+ghost use Rattle.gf_run.specs.CollectionRun.{RewritesNext, unreplaced_fault, without_cause};
+ghost use Rattle.gf_run.specs.Session.{IsSame, world_of};
 
 use crate::collections::file::{CollectionFile, name_of, open_file};
-use crate::collections::named_fault::{tell_of, tell_unopened_of};
 use crate::collections::progress::Progress;
-use crate::explain::cause::{Cause, cause_of_source};
+use crate::explain::{Cause, cause_of_source};
 use crate::fault::{RunFault, Which};
+use crate::jobs::ending::{tell_of, tell_unopened_of};
+use crate::jobs::session::Session;
 use crate::opening::inputs::{Inputs, Unreplaced};
 use crate::streams::kept::Kept;
 use crate::streams::sink::Sink;
@@ -77,14 +79,14 @@ fn put_text<I: Inputs>(
     bytes: &[u8],
     names: Names,
 ) -> Result<(), Failed>
-    ensures { IsRewritten I.opener names file.now bytes.now (without_cause result)
-        inputs.old inputs.new }
+    ensures { IsRewritten I.opener names file.now inputs.old inputs.new bytes.now
+        (without_cause result) }
 {
     if are_canonical(alloc, bytes, names)? {
         return Ok(());
     }
-    let text = canon(alloc, bytes, names)?;
-    replace(inputs, file, text)
+    let answer = canon(alloc, bytes, names)?;
+    replace(inputs, file, answer.text)
 }
 
 /// Reads a file whole, and puts its canonical text in its place.
@@ -107,60 +109,46 @@ fn rewrite<I: Inputs>(
     }
 }
 
-/// Puts the canonical text of the next file in its place, or reports its fault, and returns the
-/// worst status so far.
-fn rewrite_next<I: Inputs, E: Sink>(
-    alloc: Global,
-    inputs: &mut I,
-    file: &CollectionFile,
-    names: Names,
-    explain: bool,
-    worst: u8,
-    errors: &mut E,
-) -> u8
-    ensures { Step I.opener I.Opened.reader E.writer explain names file.now
-        (record { inputs = inputs.old; output = tt; errors = errors.old; status = worst })
-        (record { inputs = inputs.new; output = tt; errors = errors.new; status = result }) }
-{
-    let name = name_of(file);
-    let opened = match open_file(inputs, file) {
-        Ok(opened) => opened,
-        Err(cause) => return worst.max(tell_unopened_of(alloc, &cause, name, explain, errors)),
-    };
-    let mut source = Kept::new(alloc, opened, explain);
-    match rewrite(alloc, inputs, &mut source, file, names) {
-        Ok(()) => worst,
-        Err(Failed { fault, cause }) => {
-            worst.max(tell_of(alloc, &fault, &cause, name, source.bytes(), errors))
+impl<I: Inputs, P: Progress, W, E: Sink> Session<'_, '_, '_, '_, I, P, W, E> {
+    /// Puts the canonical text of the next file in its place, or reports its fault, and returns the
+    /// status.
+    fn rewrite_next(&mut self, file: &CollectionFile, names: Names) -> u8
+        ensures same { IsSame self.old self.new }
+        ensures next { RewritesNext I.opener I.Opened.reader E.writer self.old.explain names
+            file.now result (world_of self.old) (world_of self.new) }
+    {
+        let (alloc, explain, name) = (self.alloc, self.explain, name_of(file));
+        let mut source = match open_file(alloc, self.inputs, file, explain) {
+            Ok(source) => source,
+            Err(cause) => return tell_unopened_of(alloc, &cause, name, explain, self.errors),
+        };
+        match rewrite(alloc, self.inputs, &mut source, file, names) {
+            Ok(()) => 0,
+            Err(Failed { fault, cause }) => {
+                tell_of(alloc, &fault, &cause, name, source.bytes(), self.errors)
+            }
         }
     }
-}
 
-/// Puts the canonical text of each file in its place, with names or without, in the order of the
-/// files, and returns the exit status: the worst of all files, or 0 if each has its canonical text.
-///
-/// A file that is its own canonical text is not written. Another is replaced whole, or not at all.
-/// One that is refused, or cannot be opened, read or replaced, stays as it is; its fault is written
-/// to standard error after its name, and explained if `explain` is true, and the run goes on.
-/// `progress` is told of each file that is done.
-pub fn run_rewrites<I: Inputs, P: Progress, E: Sink>(
-    alloc: Global,
-    inputs: &mut I,
-    files: &[CollectionFile],
-    names: Names,
-    explain: bool,
-    progress: &mut P,
-    errors: &mut E,
-) -> u8
-    ensures { RewritesAll I.opener I.Opened.reader E.writer explain names files.now
-        (record { inputs = inputs.old; output = tt; errors = errors.old; status = 0 })
-        (record { inputs = inputs.new; output = tt; errors = errors.new; status = result }) }
-{
-    let mut worst = 0;
-    for file in files {
-        worst = rewrite_next(alloc, inputs, file, names, explain, worst, errors);
-        progress.step(files.len());
+    /// Puts the canonical text of each file in its place, with names or without, in the order of the
+    /// files, and returns the exit status: the worst of all files, or 0 if each has its canonical
+    /// text.
+    ///
+    /// A file that is its own canonical text is not written. Another is replaced whole, or not at
+    /// all. One that is refused, or cannot be opened, read or replaced, stays as it is; its fault is
+    /// written to standard error after its name, and explained if `explain` is true, and the run
+    /// goes on. `progress` is told of each file that is done.
+    pub fn run_rewrites(&mut self, files: &[CollectionFile], names: Names) -> u8
+        ensures same { IsSame self.old self.new }
+        ensures all { RewritesAll I.opener I.Opened.reader E.writer self.old.explain names
+            files.now result (world_of self.old) (world_of self.new) }
+    {
+        let mut worst: u8 = 0;
+        for file in files {
+            worst = worst.max(self.rewrite_next(file, names));
+            self.progress.step(files.len());
+        }
+        self.progress.end();
+        worst
     }
-    progress.end();
-    worst
 }

@@ -1,20 +1,19 @@
 //! How the program ends: its exit status, and what it writes to standard error.
 
-ghost use Rattle.std.specs.Prelude.{◌≡◌, List, ℕ, option_map};
-ghost use Rattle.gf_run.specs.Ending.{IsAnswered, IsTold};
-ghost use Rattle.gf_run.specs.Explained.{IsToldBy};
-ghost use Rattle.gf_run.specs.FaultLine.{fault_line};
-ghost use Rattle.gf_run.specs.FaultStatus.{status_of};
+ghost use Rattle.std.specs.Prelude.{◌≡◌, IfOk, option_map};
+ghost use Rattle.gf_run.specs.Faults.{fault_line, status_of};
 ghost use Rattle.gf_run.specs.Kept.{kept_at_first};
+ghost use Rattle.gf_run.specs.Reports.{IsAnswered, IsNamedExplanation, IsNamedText, IsReported};
+ghost use Rattle.gf_run.specs.Reports.{IsTold, IsToldOf, after_name};
 
-use crate::explain::cause::Cause;
-use crate::explain::explanation;
-use crate::fault;
-use crate::fault::{RunFault, Which};
+use crate::explain::{Cause, explanation};
+use crate::fault::{RunFault, Which, status};
 use crate::streams::sink::{Sink, push_all};
-use crate::texts::report::write_fault;
+use crate::texts::joined::joined;
+use crate::texts::report::{line_of, write_fault};
+use gf_explain::shown_name;
 use gf_words::WordsFault;
-use std::alloc::Global;
+use std::alloc::{AllocError, Global};
 use std::io;
 
 /// Writes the line of a fault to standard error, and returns its exit status.
@@ -26,7 +25,7 @@ pub fn tell<E: Sink>(fault: &RunFault, errors: &mut E) -> u8
     ensures told { IsTold E.writer (fault_line fault.now) errors.old errors.new }
 {
     let _ = write_fault(fault, errors);
-    fault::status(fault)
+    status(fault)
 }
 
 /// Reports a fault of the file with this name, and returns its exit status. It is explained by the
@@ -40,10 +39,8 @@ pub(crate) fn tell_of_file<E: Sink>(
     kept: Option<&[u8]>,
     errors: &mut E,
 ) -> u8
-    ensures status { result ≡ status_of fault.now }
-    ensures told { (text : List ℕ)
-        × IsToldBy fault.now name.now (option_map (λ bytes. bytes.now) kept.entry) text
-        × IsTold E.writer text errors.old errors.new }
+    ensures { IsReported E.writer name.now (option_map (λ bytes. bytes.now) kept.entry) fault.now
+        result errors.old errors.new }
 {
     let Some(bytes) = kept else {
         return tell(fault, errors);
@@ -51,7 +48,7 @@ pub(crate) fn tell_of_file<E: Sink>(
     match explanation(alloc, fault, cause, name, bytes) {
         Ok(text) => {
             let _ = push_all(errors, text.as_slice());
-            fault::status(fault)
+            status(fault)
         }
         Err(_) => tell(fault, errors),
     }
@@ -67,15 +64,103 @@ pub(crate) fn tell_unopened<E: Sink>(
     explain: bool,
     errors: &mut E,
 ) -> u8
-    ensures status { result ≡ 4 }
-    ensures told { (text : List ℕ)
-        × IsToldBy (RunFault.Read which) name.now (kept_at_first explain) text
-        × IsTold E.writer text errors.old errors.new }
+    ensures { IsReported E.writer name.now (kept_at_first explain) (RunFault.Read which)
+        result errors.old errors.new }
 {
     let nothing: &[u8] = &[];
     let kept = if explain { Some(nothing) } else { None };
     let cause = Cause::Opening(error);
     tell_of_file(alloc, &RunFault::Read(which), &cause, name, kept, errors)
+}
+
+/// A text after the name of its file, as it is shown.
+pub(crate) fn after_name(alloc: Global, name: &str, text: &[u8]) -> Result<Vec<u8>, AllocError>
+    ensures { IfOk result (λ line. line.items ≡ after_name name.now text.now) }
+{
+    let shown = shown_name(alloc, name)?;
+    joined(alloc, &[shown.as_bytes(), b": ", text])
+}
+
+/// A fault in words, after the name of its file.
+fn named_explanation(
+    alloc: Global,
+    fault: &RunFault,
+    cause: &Cause,
+    name: &str,
+    bytes: &[u8],
+) -> Result<Vec<u8>, AllocError>
+    ensures { IfOk result (λ text. IsNamedExplanation fault.now name.now bytes.now text.items) }
+{
+    let text = explanation(alloc, fault, cause, name, bytes)?;
+    match fault {
+        // The place of a refusal begins with the name.
+        RunFault::Refused { .. } => Ok(text),
+        _ => after_name(alloc, name, text.as_slice()),
+    }
+}
+
+/// What is written about a fault.
+fn named_text(
+    alloc: Global,
+    fault: &RunFault,
+    cause: &Cause,
+    name: &str,
+    kept: Option<&[u8]>,
+) -> Result<Vec<u8>, AllocError>
+    ensures { IfOk result (λ text. IsNamedText fault.now name.now
+        (option_map (λ bytes. bytes.now) kept.entry) text.items) }
+{
+    if let Some(bytes) = kept {
+        if let Ok(text) = named_explanation(alloc, fault, cause, name, bytes) {
+            return Ok(text);
+        }
+    }
+    after_name(alloc, name, line_of(fault).as_slice())
+}
+
+/// Reports the fault of a file after its name, and returns its status. It is explained by the bytes
+/// of the file that were kept, if any were.
+pub(crate) fn tell_of<E: Sink>(
+    alloc: Global,
+    fault: &RunFault,
+    cause: &Cause,
+    name: &str,
+    kept: Option<&[u8]>,
+    errors: &mut E,
+) -> u8
+    ensures { IsToldOf E.writer name.now (option_map (λ bytes. bytes.now) kept.entry) fault.now
+        result errors.old errors.new }
+{
+    match named_text(alloc, fault, cause, name, kept) {
+        Ok(text) => {
+            let _ = push_all(errors, text.as_slice());
+            status(fault)
+        }
+        Err(AllocError) => tell(&RunFault::Memory, errors),
+    }
+}
+
+/// Reports that a file could not be opened, as `tell_of` does, and returns the status.
+pub(crate) fn tell_unopened_of<E: Sink>(
+    alloc: Global,
+    cause: &Cause,
+    name: &str,
+    explain: bool,
+    errors: &mut E,
+) -> u8
+    ensures { IsToldOf E.writer name.now (kept_at_first explain) (RunFault.Read Which.Only)
+        result errors.old errors.new }
+{
+    let nothing: &[u8] = &[];
+    let kept = if explain { Some(nothing) } else { None };
+    tell_of(
+        alloc,
+        &RunFault::Read(Which::Only),
+        cause,
+        name,
+        kept,
+        errors,
+    )
 }
 
 /// Answers words that ask for no job, and returns the exit status.

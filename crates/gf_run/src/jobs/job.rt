@@ -1,13 +1,13 @@
 //! What the program does for a request.
 
 ghost use Rattle.gf_run.specs.Performs.{Performs};
+ghost use Rattle.gf_run.specs.Session.{IsSame, world_of};
 
-use crate::collections::collection::perform_all;
+use crate::collections::collection::Task;
 use crate::collections::line::FileLine;
 use crate::collections::progress::Progress;
-use crate::collections::task::Task;
-use crate::jobs::one_file::{OneTask, perform_one, strategies_of};
-use crate::jobs::two_files::perform_same;
+use crate::jobs::one_file::{OneTask, strategies_of};
+use crate::jobs::session::Session;
 use crate::opening::inputs::Inputs;
 use crate::streams::last_error::LastError;
 use crate::streams::sink::Sink;
@@ -47,52 +47,48 @@ pub fn perform<R: Files + AllocGlobal, I: Inputs, P: Progress, W: Sink + LastErr
     errors: &mut E,
 ) -> u8
     ensures { Performs I.opener I.Opened.reader W.writer E.writer request.now.explain
-        request.now.job
-        (record { inputs = inputs.old; output = output.old; errors = errors.old; status = 0 })
-        (record {
-          inputs = inputs.new;
-          output = output.new;
-          errors = errors.new;
-          status = result;
-        }) }
+        request.now.job result
+        (record { inputs = inputs.old; output = output.old; errors = errors.old })
+        (record { inputs = inputs.new; output = output.new; errors = errors.new }) }
 {
-    let (alloc, explain) = (rt.alloc(), request.explain);
-    match &request.job {
-        Job::Canon { input, names } => {
-            let task = OneTask::Canon(*names);
-            perform_one(alloc, inputs, input, task, explain, output, errors)
-        }
-        Job::Check(input) => {
-            let task = OneTask::Check;
-            perform_one(alloc, inputs, input, task, explain, output, errors)
-        }
-        Job::Table { input, reduced } => {
-            let task = OneTask::Table(strategies_of(*reduced));
-            perform_one(alloc, inputs, input, task, explain, output, errors)
-        }
-        Job::Same { a, b, map, names } => {
-            let (a, b) = (a.as_str(), b.as_str());
-            perform_same(alloc, inputs, a, b, *map, *names, explain, output, errors)
-        }
-        Job::CheckCanon { files, names } => {
-            let task = Task::Lines(FileLine::NotCanonical(*names));
-            perform_all(rt, inputs, files, task, explain, progress, output, errors)
-        }
-        Job::WriteCanon { files, names } => {
-            let task = Task::Rewrites(*names);
-            perform_all(rt, inputs, files, task, explain, progress, output, errors)
-        }
-        Job::CheckAll(files) => {
-            let task = Task::Lines(FileLine::Kind);
-            perform_all(rt, inputs, files, task, explain, progress, output, errors)
-        }
-        Job::Hash { files, names, end } => {
-            let task = Task::Lines(FileLine::Hash(*names, *end));
-            perform_all(rt, inputs, files, task, explain, progress, output, errors)
-        }
-        Job::Duplicates { files, names, end } => {
-            let task = Task::Duplicates(*names, *end);
-            perform_all(rt, inputs, files, task, explain, progress, output, errors)
+    let mut session = Session {
+        alloc: rt.alloc(),
+        inputs,
+        progress,
+        output,
+        errors,
+        explain: request.explain,
+    };
+    session.perform_job(rt, &request.job)
+}
+
+impl<I: Inputs, P: Progress, W: Sink + LastError, E: Sink> Session<'_, '_, '_, '_, I, P, W, E> {
+    /// Does a job, and returns the exit status.
+    fn perform_job<R: Files + AllocGlobal>(&mut self, rt: &R, job: &Job) -> u8
+        ensures same { IsSame self.old self.new }
+        ensures performed { Performs I.opener I.Opened.reader W.writer E.writer self.old.explain
+            job.now result (world_of self.old) (world_of self.new) }
+    {
+        match job {
+            Job::Canon { input, names } => self.perform_one(input, OneTask::Canon(*names)),
+            Job::Check(input) => self.perform_one(input, OneTask::Check),
+            Job::Table { input, reduced } => {
+                self.perform_one(input, OneTask::Table(strategies_of(*reduced)))
+            }
+            Job::Same { a, b, map, names } => {
+                self.perform_same(a.as_str(), b.as_str(), *map, *names)
+            }
+            Job::CheckCanon { files, names } => {
+                self.perform_all(rt, files, Task::Lines(FileLine::NotCanonical(*names)))
+            }
+            Job::WriteCanon { files, names } => self.perform_all(rt, files, Task::Rewrites(*names)),
+            Job::CheckAll(files) => self.perform_all(rt, files, Task::Lines(FileLine::Kind)),
+            Job::Hash { files, names, end } => {
+                self.perform_all(rt, files, Task::Lines(FileLine::Hash(*names, *end)))
+            }
+            Job::Duplicates { files, names, end } => {
+                self.perform_all(rt, files, Task::Duplicates(*names, *end))
+            }
         }
     }
 }

@@ -1,18 +1,16 @@
 //! The jobs over one input.
 
 ghost use Rattle.std.specs.Prelude.{◌≡◌};
-ghost use Rattle.gf_run.specs.Ending.{Ends};
-ghost use Rattle.gf_run.specs.Explained.{called_input};
-ghost use Rattle.gf_run.specs.Kept.{bytes_kept, kept_reader};
-ghost use Rattle.gf_run.specs.Performed.{PerformsOne, RunsOne, strategies_of};
-ghost use Rattle.gf_run.specs.Run.{RunsTable};
+ghost use Rattle.gf_run.specs.Performs.{PerformsOne, RunsOne, strategies_of};
+ghost use Rattle.gf_run.specs.Reports.{called_input};
+ghost use Rattle.gf_run.specs.Session.{IsSame, world_of};
 
-use crate::explain::cause::cause_of;
+use crate::explain::cause_of;
 use crate::fault::{RunFault, Which};
 use crate::jobs::ending::{tell_of_file, tell_unopened};
-use crate::jobs::run::{run_canon_by, run_check, run_table, run_table_reduced};
-use crate::opening::inputs::{Inputs, open_input};
-use crate::streams::kept::Kept;
+use crate::jobs::run::{run_canon_by, run_check, run_form};
+use crate::jobs::session::Session;
+use crate::opening::inputs::{Inputs, open_kept};
 use crate::streams::last_error::LastError;
 use crate::streams::sink::Sink;
 use crate::streams::source::Source;
@@ -53,50 +51,6 @@ fn called_input(input: &Input) -> &str
     }
 }
 
-/// How a job over one input ends by the result of its run.
-fn end_of<A, S: LastError, W: LastError, E: Sink>(
-    alloc: Global,
-    run: &Result<A, RunFault>,
-    input: &Input,
-    source: &Kept<S>,
-    output: &W,
-    errors: &mut E,
-) -> u8
-    ensures { Ends E.writer (λ _. 0) (called_input input.now) (bytes_kept source.now) run.now result
-        errors.old errors.new }
-{
-    match run {
-        Ok(_) => 0,
-        Err(fault) => {
-            let cause = cause_of(fault, source, output);
-            tell_of_file(
-                alloc,
-                fault,
-                &cause,
-                called_input(input),
-                source.bytes(),
-                errors,
-            )
-        }
-    }
-}
-
-/// The run that writes the form by these strategies.
-fn run_form_by<R: Source, W: Sink>(
-    alloc: Global,
-    source: &mut R,
-    strategies: Strategies,
-    output: &mut W,
-) -> Result<(), RunFault>
-    ensures { RunsTable R.reader W.writer strategies result source.old source.new
-        output.old output.new }
-{
-    match strategies {
-        Strategies::Pure => run_table(alloc, source, output),
-        Strategies::Reduced => run_table_reduced(alloc, source, output),
-    }
-}
-
 /// Does this with the file that it reads.
 fn run_one<R: Source, W: Sink>(
     alloc: Global,
@@ -112,37 +66,30 @@ fn run_one<R: Source, W: Sink>(
             Ok(_) => Ok(()),
             Err(fault) => Err(fault),
         },
-        OneTask::Table(strategies) => run_form_by(alloc, source, strategies, output),
+        OneTask::Table(strategies) => run_form(alloc, source, strategies, output),
     }
 }
 
-/// Opens an input, does this with the file, and returns the exit status.
-pub(crate) fn perform_one<I: Inputs, W: Sink + LastError, E: Sink>(
-    alloc: Global,
-    inputs: &mut I,
-    input: &Input,
-    task: OneTask,
-    explain: bool,
-    output: &mut W,
-    errors: &mut E,
-) -> u8
-    ensures { PerformsOne I.opener E.writer explain
-        (RunsOne (kept_reader I.Opened.reader) W.writer task) input.now result
-        inputs.old inputs.new output.old output.new errors.old errors.new }
-{
-    match open_input(inputs, input) {
-        Ok(opened) => {
-            let mut source = Kept::new(alloc, opened, explain);
-            let run = run_one(alloc, &mut source, task, output);
-            end_of(alloc, &run, input, &source, output, errors)
+impl<I: Inputs, P, W: Sink + LastError, E: Sink> Session<'_, '_, '_, '_, I, P, W, E> {
+    /// Opens an input, does this with the file, and returns the exit status.
+    pub(crate) fn perform_one(&mut self, input: &Input, task: OneTask) -> u8
+        ensures same { IsSame self.old self.new }
+        ensures performed { PerformsOne I.opener I.Opened.reader W.writer E.writer self.old.explain
+            task input.now result (world_of self.old) (world_of self.new) }
+    {
+        let (alloc, name) = (self.alloc, called_input(input));
+        let mut source = match open_kept(alloc, self.inputs, input, self.explain) {
+            Ok(source) => source,
+            Err(error) => {
+                return tell_unopened(alloc, Which::Only, error, name, self.explain, self.errors);
+            }
+        };
+        match run_one(alloc, &mut source, task, self.output) {
+            Ok(()) => 0,
+            Err(fault) => {
+                let cause = cause_of(&fault, &source, self.output);
+                tell_of_file(alloc, &fault, &cause, name, source.bytes(), self.errors)
+            }
         }
-        Err(error) => tell_unopened(
-            alloc,
-            Which::Only,
-            error,
-            called_input(input),
-            explain,
-            errors,
-        ),
     }
 }

@@ -7,9 +7,9 @@ ghost use Rattle.gf_run.specs.Run.{RunsCanonBy, RunsCheck, RunsTable};
 use crate::fault::{RunFault, Which};
 use crate::streams::sink::{Sink, push_all};
 use crate::streams::source::{Source, load};
+use crate::texts::answer::write_answer;
 use crate::texts::game::{canon, kind_line, kind_of};
 use crate::texts::table::table;
-use crate::texts::text::push_text;
 use gf_canon::{FileKind, Names};
 use gf_form::Strategies;
 use std::alloc::Global;
@@ -39,9 +39,7 @@ pub fn run_canon_by<R: Source, W: Sink>(
     ensures { RunsCanonBy R.reader W.writer names result input.old input.new output.old output.new }
 {
     let bytes = load(alloc, input, Which::Only)?;
-    let text = canon(alloc, bytes.as_slice(), names)?;
-    push_text(output, text)?;
-    Ok(())
+    write_answer(canon(alloc, bytes.as_slice(), names), output)
 }
 
 /// Writes the canonical text of the file that it reads, as `run_canon_by` does with names kept.
@@ -81,8 +79,8 @@ pub fn run_check<R: Source, W: Sink>(
     Ok(kind)
 }
 
-/// Writes the form of the tree that it reads, or its reduced form; a table as it is.
-fn run_form<R: Source, W: Sink>(
+/// Writes the form of the tree that it reads, by these strategies; a table as it is.
+pub(crate) fn run_form<R: Source, W: Sink>(
     alloc: Global,
     input: &mut R,
     strategies: Strategies,
@@ -92,9 +90,7 @@ fn run_form<R: Source, W: Sink>(
         output.old output.new }
 {
     let bytes = load(alloc, input, Which::Only)?;
-    let text = table(alloc, bytes.as_slice(), strategies)?;
-    push_text(output, text)?;
-    Ok(())
+    write_answer(table(alloc, bytes.as_slice(), strategies), output)
 }
 
 /// Writes the strategic form of the tree that it reads, as a strategic file in canonical text; for

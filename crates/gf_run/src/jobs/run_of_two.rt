@@ -1,14 +1,34 @@
 //! The runs that compare two files, over inputs that are open.
 
 ghost use Rattle.std.specs.Prelude.{◌≡◌};
-ghost use Rattle.gf_run.specs.RunOfTwo.{RunsSame, RunsSameBy, RunsSameMap};
+ghost use Rattle.gf_run.specs.Run.{RunsSame, RunsSameBy, RunsSameMap, RunsTwo};
 
 use crate::fault::{RunFault, Which};
-use crate::streams::sink::{Sink, push_all};
+use crate::streams::sink::Sink;
 use crate::streams::source::{Source, load};
-use crate::texts::comparison::{compare, compare_with_map};
+use crate::texts::answer::write_answer;
+use crate::texts::comparison::comparison;
 use gf_canon::Names;
 use std::alloc::Global;
+
+/// Returns whether the two files that it reads mean the same, and writes it: with their renumbering
+/// if `map` is true, otherwise by `names`.
+pub(crate) fn run_comparison<R: Source, S: Source, W: Sink>(
+    alloc: Global,
+    a: &mut R,
+    b: &mut S,
+    map: bool,
+    names: Names,
+    output: &mut W,
+) -> Result<bool, RunFault>
+    ensures { RunsTwo R.reader S.reader W.writer map names result a.old a.new b.old b.new
+        output.old output.new }
+{
+    let first = load(alloc, a, Which::First)?;
+    let second = load(alloc, b, Which::Second)?;
+    let answer = comparison(alloc, first.as_slice(), second.as_slice(), map, names);
+    write_answer(answer, output)
+}
 
 /// Returns whether the two files that it reads mean the same, with names or without, as `same_by`
 /// says; writes `same` or `different` and a line feed.
@@ -36,11 +56,7 @@ pub fn run_same_by<R: Source, S: Source, W: Sink>(
     ensures { RunsSameBy R.reader S.reader W.writer names result a.old a.new b.old b.new
         output.old output.new }
 {
-    let first = load(alloc, a, Which::First)?;
-    let second = load(alloc, b, Which::Second)?;
-    let answer = compare(alloc, first.as_slice(), second.as_slice(), names)?;
-    push_all(output, answer.text.as_slice())?;
-    Ok(answer.same)
+    run_comparison(alloc, a, b, false, names, output)
 }
 
 /// Returns whether the two files that it reads mean the same, as `same` says; writes `same` or
@@ -88,9 +104,5 @@ pub fn run_same_map<R: Source, S: Source, W: Sink>(
     ensures { RunsSameMap R.reader S.reader W.writer result a.old a.new b.old b.new
         output.old output.new }
 {
-    let first = load(alloc, a, Which::First)?;
-    let second = load(alloc, b, Which::Second)?;
-    let answer = compare_with_map(alloc, first.as_slice(), second.as_slice())?;
-    push_all(output, answer.text.as_slice())?;
-    Ok(answer.same)
+    run_comparison(alloc, a, b, true, Names::Kept, output)
 }

@@ -1,20 +1,21 @@
 //! The job over two files.
 
-ghost use Rattle.std.specs.Prelude.{◌≡◌};
-ghost use Rattle.gf_run.specs.Ending.{Ends};
-ghost use Rattle.gf_run.specs.FaultStatus.{answer_status};
+ghost use Rattle.gf_run.specs.Faults.{answer_status};
 ghost use Rattle.gf_run.specs.Kept.{bytes_kept, kept_reader};
-ghost use Rattle.gf_run.specs.Performed.{PerformsTwo, RunsComparison, of_fault};
+ghost use Rattle.gf_run.specs.Performs.{PerformsTwo, of_fault};
+ghost use Rattle.gf_run.specs.Reports.{Ends, IsReported};
+ghost use Rattle.gf_run.specs.Run.{RunsTwo};
+ghost use Rattle.gf_run.specs.Session.{IsSame, world_of};
 
-use crate::explain::cause::cause_of;
+use crate::explain::cause_of;
 use crate::fault::{RunFault, Which, answer_status, is_of_second};
 use crate::jobs::ending::{tell_of_file, tell_unopened};
-use crate::jobs::run_of_two::{run_same_by, run_same_map};
+use crate::jobs::run_of_two::run_comparison;
+use crate::jobs::session::Session;
 use crate::opening::inputs::{Inputs, open_named};
 use crate::streams::kept::Kept;
 use crate::streams::last_error::LastError;
 use crate::streams::sink::Sink;
-use crate::streams::source::Source;
 use gf_canon::Names;
 use std::alloc::Global;
 
@@ -29,8 +30,8 @@ fn end_of<S: LastError, W: LastError, E: Sink>(
     output: &W,
     errors: &mut E,
 ) -> u8
-    ensures { Ends E.writer answer_status (of_fault run.now a.now b.now)
-        (of_fault run.now (bytes_kept first.now) (bytes_kept second.now)) run.now result
+    ensures { Ends (IsReported E.writer (of_fault run.now a.now b.now)) answer_status run.now
+        (of_fault run.now (bytes_kept first.now) (bytes_kept second.now)) result
         errors.old errors.new }
 {
     match run {
@@ -45,52 +46,34 @@ fn end_of<S: LastError, W: LastError, E: Sink>(
     }
 }
 
-/// The run that compares two files: with their renumbering if `map` is true, otherwise by `names`.
-fn run_comparison<S: Source, W: Sink>(
-    alloc: Global,
-    first: &mut S,
-    second: &mut S,
-    map: bool,
-    names: Names,
-    output: &mut W,
-) -> Result<bool, RunFault>
-    ensures { RunsComparison S.reader W.writer map names result first.old first.new
-        second.old second.new output.old output.new }
-{
-    if map {
-        run_same_map(alloc, first, second, output)
-    } else {
-        run_same_by(alloc, first, second, names, output)
+impl<I: Inputs, P, W: Sink + LastError, E: Sink> Session<'_, '_, '_, '_, I, P, W, E> {
+    /// Opens two files, and writes whether they mean the same: with their renumbering if `map` is
+    /// true, otherwise by `names`.
+    pub(crate) fn perform_same(&mut self, a: &str, b: &str, map: bool, names: Names) -> u8
+        ensures same { IsSame self.old self.new }
+        ensures performed { PerformsTwo I.opener E.writer self.old.explain
+            (RunsTwo (kept_reader I.Opened.reader) (kept_reader I.Opened.reader) W.writer map names)
+            a.now b.now result (world_of self.old) (world_of self.new) }
+    {
+        let (alloc, explain) = (self.alloc, self.explain);
+        let first = match open_named(self.inputs, a) {
+            Ok(first) => first,
+            Err(error) => return tell_unopened(alloc, Which::First, error, a, explain, self.errors),
+        };
+        let second = match open_named(self.inputs, b) {
+            Ok(second) => second,
+            Err(error) => return tell_unopened(
+                alloc,
+                Which::Second,
+                error,
+                b,
+                explain,
+                self.errors,
+            ),
+        };
+        let mut first = Kept::new(alloc, first, explain);
+        let mut second = Kept::new(alloc, second, explain);
+        let run = run_comparison(alloc, &mut first, &mut second, map, names, self.output);
+        end_of(alloc, &run, a, b, &first, &second, self.output, self.errors)
     }
-}
-
-/// Opens two files, and writes whether they mean the same: with their renumbering if `map` is true,
-/// otherwise by `names`.
-pub fn perform_same<I: Inputs, W: Sink + LastError, E: Sink>(
-    alloc: Global,
-    inputs: &mut I,
-    a: &str,
-    b: &str,
-    map: bool,
-    names: Names,
-    explain: bool,
-    output: &mut W,
-    errors: &mut E,
-) -> u8
-    ensures { PerformsTwo I.opener E.writer explain
-        (RunsComparison (kept_reader I.Opened.reader) W.writer map names) a.now b.now result
-        inputs.old inputs.new output.old output.new errors.old errors.new }
-{
-    let first = match open_named(inputs, a) {
-        Ok(first) => first,
-        Err(error) => return tell_unopened(alloc, Which::First, error, a, explain, errors),
-    };
-    let second = match open_named(inputs, b) {
-        Ok(second) => second,
-        Err(error) => return tell_unopened(alloc, Which::Second, error, b, explain, errors),
-    };
-    let mut first = Kept::new(alloc, first, explain);
-    let mut second = Kept::new(alloc, second, explain);
-    let run = run_comparison(alloc, &mut first, &mut second, map, names, output);
-    end_of(alloc, &run, a, b, &first, &second, output, errors)
 }

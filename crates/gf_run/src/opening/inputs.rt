@@ -1,12 +1,15 @@
 //! How the inputs of a job are opened, and how a text takes the place of one.
 
-ghost use Rattle.gf_run.specs.Opening.{IsNotOpened, IsOpened, Opener, Opens};
 ghost use Rattle.std.specs.Prelude.{◌≡◌, MatchResult};
+ghost use Rattle.gf_run.specs.Kept.{bytes_kept, kept_at_first, source_of};
+ghost use Rattle.gf_run.specs.Opening.{IsNotOpened, IsOpened, Opener, Opens};
 
+use crate::streams::kept::Kept;
 use crate::streams::last_error::LastError;
 use crate::streams::source::Source;
 use gf_nfg::TextAndPayoffs;
 use gf_words::Input;
+use std::alloc::Global;
 use std::io;
 
 /// Why a text was not put in the place of a file.
@@ -59,5 +62,23 @@ pub fn open_input<I: Inputs>(inputs: &mut I, input: &Input) -> Result<I::Opened,
     match input {
         Input::Standard => Ok(inputs.standard()),
         Input::File(name) => inputs.open(name.as_str()),
+    }
+}
+
+/// Opens an input whose bytes are kept, as they pass, if `keeps` is true.
+pub fn open_kept<I: Inputs>(
+    alloc: Global,
+    inputs: &mut I,
+    input: &Input,
+    keeps: bool,
+) -> Result<Kept<I::Opened>, io::Error>
+    ensures { MatchResult result
+        (λ kept. IsOpened I.opener input.now inputs.old (source_of kept) inputs.new
+        × (bytes_kept kept ≡ kept_at_first keeps))
+        (λ _. IsNotOpened I.opener input.now inputs.old inputs.new) }
+{
+    match open_input(inputs, input) {
+        Ok(opened) => Ok(Kept::new(alloc, opened, keeps)),
+        Err(error) => Err(error),
     }
 }

@@ -4,7 +4,7 @@
 use crate::opening::inputs::Unreplaced;
 use crate::streams::counted::Counted;
 use crate::streams::last_error::LastError;
-use crate::texts::text::push_text;
+use crate::texts::answer::push_text;
 use gf_nfg::TextAndPayoffs;
 use std::alloc::AllocError;
 use std::fs::{File, Permissions};

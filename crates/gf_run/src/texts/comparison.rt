@@ -1,23 +1,18 @@
 //! What is written about two files that are compared.
 
-ghost use Rattle.std.specs.Prelude.{◌≡◌, IfErr, IfOk};
+ghost use Rattle.std.specs.Prelude.{◌≡◌, MatchResult};
 ghost use Rattle.gf_canon.specs.GameFile.{SameFile};
 ghost use Rattle.gf_canon.specs.SameBy.{SameBy};
-ghost use Rattle.gf_run.specs.RunOfTwo.{IsFaultOfFiles};
+ghost use Rattle.gf_run.specs.NoAnswer.{IsFaultOfFiles};
+ghost use Rattle.gf_run.specs.Run.{IsAnswerBy};
 ghost use Rattle.gf_run.specs.SameText.{IsAnswer, IsLine, IsLineAndMap, answer_line};
 
 use crate::fault::RunFault;
+use crate::texts::answer::{Answer, answer_with};
 use crate::texts::joined::joined;
 use crate::texts::renumbering::pair_line;
 use gf_canon::{Names, NumberPair, ReceivePairs, pairs_of_files, same_by};
 use std::alloc::{AllocError, Global};
-
-/// Whether two files are the same, and what is written about it.
-#[derive(Drop)]
-pub struct Answer {
-    pub same: bool,
-    pub text: Vec<u8>,
-}
 
 /// The line of an answer.
 fn answer_line(same: bool) -> &'static [u8]
@@ -49,28 +44,47 @@ impl ReceivePairs for PairLines {
 /// carries the first to the second.
 ///
 /// Refused as by `same`.
-pub fn compare_with_map(alloc: Global, a: &[u8], b: &[u8]) -> Result<Answer, RunFault>
-    ensures answer { IfOk result (λ answer.
-        IsAnswer SameFile IsLineAndMap answer.same a.now b.now answer.text.items) }
-    ensures refused { IfErr result (IsFaultOfFiles a.now b.now) }
+fn compare_with_map(alloc: Global, a: &[u8], b: &[u8]) -> Result<Answer<bool>, RunFault>
+    ensures { MatchResult result
+        (λ answer. IsAnswer SameFile IsLineAndMap answer.value a.now b.now answer.text.rest)
+        (IsFaultOfFiles a.now b.now) }
 {
     let mut lines = PairLines {
         text: Vec::new(alloc),
     };
     let same = pairs_of_files(alloc, a, b, &mut lines)?;
     let text = joined(alloc, &[answer_line(same), lines.text.as_slice()])?;
-    Ok(Answer { same, text })
+    Ok(answer_with(alloc, same, text))
 }
 
 /// Whether two files are the same, with names or without.
 ///
 /// Refused as by `same_by`.
-pub fn compare(alloc: Global, a: &[u8], b: &[u8], names: Names) -> Result<Answer, RunFault>
-    ensures answer { IfOk result (λ answer.
-        IsAnswer (SameBy names) IsLine answer.same a.now b.now answer.text.items) }
-    ensures refused { IfErr result (IsFaultOfFiles a.now b.now) }
+fn compare(alloc: Global, a: &[u8], b: &[u8], names: Names) -> Result<Answer<bool>, RunFault>
+    ensures { MatchResult result
+        (λ answer. IsAnswer (SameBy names) IsLine answer.value a.now b.now answer.text.rest)
+        (IsFaultOfFiles a.now b.now) }
 {
     let same = same_by(alloc, a, b, names)?;
     let text = Vec::from_slice(alloc, answer_line(same))?;
-    Ok(Answer { same, text })
+    Ok(answer_with(alloc, same, text))
+}
+
+/// Whether two files are the same: with their renumbering if `map` is true, otherwise by `names`.
+pub fn comparison(
+    alloc: Global,
+    a: &[u8],
+    b: &[u8],
+    map: bool,
+    names: Names,
+) -> Result<Answer<bool>, RunFault>
+    ensures { MatchResult result
+        (λ answer. IsAnswerBy map names answer.value a.now b.now answer.text.rest)
+        (IsFaultOfFiles a.now b.now) }
+{
+    if map {
+        compare_with_map(alloc, a, b)
+    } else {
+        compare(alloc, a, b, names)
+    }
 }

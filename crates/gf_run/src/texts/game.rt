@@ -1,25 +1,28 @@
 //! The answers about the game in a file: its canonical text, whether it is that already, and its
 //! kind.
 
-ghost use Rattle.std.specs.Prelude.{◌≡◌, ◌↔◌, IfErr, IfOk, IsTrue};
+ghost use Rattle.std.specs.Prelude.{◌≡◌, ◌↔◌, MatchResult, IsTrue};
 ghost use Rattle.gf_canon.specs.KindOfFile.{MeansFileOf};
 ghost use Rattle.gf_canon.specs.NamesAside.{IsTextBy};
-ghost use Rattle.gf_run.specs.FileKinds.{kind_line};
-ghost use Rattle.gf_run.specs.LineText.{AreCanonical};
-ghost use Rattle.gf_run.specs.Run.{IsRefusal};
+ghost use Rattle.gf_run.specs.LineText.{AreCanonical, kind_line};
+ghost use Rattle.gf_run.specs.NoAnswer.{IsRefusal};
 
 use crate::fault::{RunFault, refused};
+use crate::texts::answer::Answer;
 use gf_canon::{FileKind, Names, canonical_text, check};
 use gf_nfg::TextAndPayoffs;
 use std::alloc::Global;
 
 /// The canonical text of a file, with names or without.
-pub fn canon(alloc: Global, bytes: &[u8], names: Names) -> Result<TextAndPayoffs, RunFault>
-    ensures text { IfOk result (λ text. IsTextBy names bytes.now text.rest) }
-    ensures refused { IfErr result (IsRefusal bytes.now) }
+pub fn canon(alloc: Global, bytes: &[u8], names: Names) -> Result<Answer<()>, RunFault>
+    ensures { MatchResult result
+        (λ answer. IsTextBy names bytes.now answer.text.rest) (IsRefusal bytes.now) }
 {
     match canonical_text(alloc, bytes, names) {
-        Ok(text) => Ok(TextAndPayoffs::of(alloc, text)),
+        Ok(text) => Ok(Answer {
+            value: (),
+            text: TextAndPayoffs::of(alloc, text),
+        }),
         Err(fault) => Err(refused(fault)),
     }
 }
@@ -40,17 +43,15 @@ fn are_text(bytes: &[u8], mut text: TextAndPayoffs) -> bool
 
 /// Whether the bytes of a file are its canonical text, with names or without.
 pub fn are_canonical(alloc: Global, bytes: &[u8], names: Names) -> Result<bool, RunFault>
-    ensures answer { IfOk result (AreCanonical names bytes.now) }
-    ensures refused { IfErr result (IsRefusal bytes.now) }
+    ensures { MatchResult result (AreCanonical names bytes.now) (IsRefusal bytes.now) }
 {
-    let text = canon(alloc, bytes, names)?;
-    Ok(are_text(bytes, text))
+    let answer = canon(alloc, bytes, names)?;
+    Ok(are_text(bytes, answer.text))
 }
 
 /// The kind of a file. No node of a tree is kept, and no text of a game is made.
 pub fn kind_of(alloc: Global, bytes: &[u8]) -> Result<FileKind, RunFault>
-    ensures kind { IfOk result (MeansFileOf bytes.now) }
-    ensures refused { IfErr result (IsRefusal bytes.now) }
+    ensures { MatchResult result (MeansFileOf bytes.now) (IsRefusal bytes.now) }
 {
     match check(alloc, bytes) {
         Ok(kind) => Ok(kind),

@@ -1,7 +1,7 @@
 //! What is written about a fault: its line on standard error.
 
 ghost use Rattle.std.specs.Prelude.{◌≡◌, ◌≤◌, length, OnOk, OnErr};
-ghost use Rattle.gf_run.specs.FaultLine.{fault_prefix, fault_line, prefix_of, short_line};
+ghost use Rattle.gf_run.specs.Faults.{fault_line, fault_prefix, prefix_of, short_line};
 ghost use Rattle.gf_run.specs.Output.{IsWriteFault, IsWritten};
 
 use crate::fault::{RunFault, Which, WriteFault};

@@ -1,24 +1,24 @@
 //! The answer that is a table: the strategic form of a tree, or its reduced form; a table as it is.
 
-ghost use Rattle.std.specs.Prelude.{◌≤◌, IfErr, IfOk, length};
+ghost use Rattle.std.specs.Prelude.{◌≤◌, MatchResult, length};
 ghost use Rattle.gf_canon.specs.MeaningOf.{file_of};
-ghost use Rattle.gf_run.specs.FormFaults.{form_fault};
-ghost use Rattle.gf_run.specs.FormText.{FileHasFewPlayers, IsFaultOfBytes, IsFormFault};
-ghost use Rattle.gf_run.specs.FormText.{IsFormText, IsTableOfFile};
+ghost use Rattle.gf_run.specs.FormText.{FileHasFewPlayers, IsFormFault, IsFormText, IsTableOfFile};
 ghost use Rattle.gf_run.specs.Input.{limit};
+ghost use Rattle.gf_run.specs.NoAnswer.{IsFaultOfBytes};
 
 use crate::fault::{RunFault, refused};
+use crate::texts::answer::Answer;
 use gf_canon::{Meaning, read_file};
 use gf_form::{FormFault, Strategies, form_by};
-use gf_nfg::{Table, TextAndPayoffs, text_of};
+use gf_nfg::{Table, text_of};
 use std::alloc::Global;
 
 /// The form of a tree by these strategies, or the table of a strategic file.
 fn table_of(alloc: Global, meaning: Meaning<'_>, strategies: Strategies) -> Result<Table, FormFault>
     requires { FileHasFewPlayers (file_of meaning) }
-    ensures form { IfOk result (λ t. IsTableOfFile strategies (file_of meaning.entry) t) }
-    ensures fault { IfErr result (λ fault.
-        IsFormFault strategies (file_of meaning.entry) (form_fault fault)) }
+    ensures { MatchResult result
+        (λ t. IsTableOfFile strategies (file_of meaning.entry) t)
+        (IsFormFault strategies (file_of meaning.entry)) }
 {
     match meaning {
         Meaning::Tree(game) => form_by(alloc, &game, strategies),
@@ -27,14 +27,11 @@ fn table_of(alloc: Global, meaning: Meaning<'_>, strategies: Strategies) -> Resu
 }
 
 /// The canonical text of the strategic form of a tree, or of its reduced form; or of a table.
-pub fn table(
-    alloc: Global,
-    bytes: &[u8],
-    strategies: Strategies,
-) -> Result<TextAndPayoffs, RunFault>
+pub fn table(alloc: Global, bytes: &[u8], strategies: Strategies) -> Result<Answer<()>, RunFault>
     requires { length bytes.now ≤ limit }
-    ensures text { IfOk result (λ text. IsFormText strategies bytes.now text.rest) }
-    ensures fault { IfErr result (IsFaultOfBytes strategies bytes.now) }
+    ensures { MatchResult result
+        (λ answer. IsFormText strategies bytes.now answer.text.rest)
+        (IsFaultOfBytes strategies bytes.now) }
 {
     let meaning = match read_file(alloc, bytes) {
         Ok(meaning) => meaning,
@@ -42,5 +39,5 @@ pub fn table(
     };
     let table = table_of(alloc, meaning, strategies)?;
     let text = text_of(alloc, table)?;
-    Ok(text)
+    Ok(Answer { value: (), text })
 }

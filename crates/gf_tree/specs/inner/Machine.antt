@@ -5,15 +5,14 @@ use Rattle.std.specs.Prelude.{◌∷◌, ◌++◌, length, codes, Option, Some, 
 use Rattle.std.specs.Prelude.{nat_le, pos, if◌then◌else◌}
 use Rattle.std.specs.Cmp.Lexicographic.{pointwise}
 use Rattle.gf_fraction.specs.Ratio.{Ratio, whole}
-use Rattle.gf_fraction.specs.inner.Computed.{number_of}
+use Rattle.gf_fraction.specs.Offered.{number_of}
 use Rattle.gf_fraction.specs.declared.fraction.NumberFault.{NumberFault}
 use Rattle.gf_token.specs.Token.{Token, Lexeme}
 use Rattle.gf_token.specs.Next.{is_broken, is_opening, is_closing, is_comma, is_text_token}
 use Rattle.gf_token.specs.Next.{is_bare_token}
 use Rattle.gf_token.specs.NumberWhy.{why_of}
-use Rattle.gf_token.specs.inner.Indices.{count_of, index_of}
+use Rattle.gf_token.specs.Offered.{count_of, index_of, read_on}
 use Rattle.gf_token.specs.declared.fault.Fault.{Fault}
-use Rattle.gf_token.specs.inner.Machine.{read_on}
 use Rattle.gf_token.specs.Token.Token.{Opening, Closing, Comma, Text, Bare}
 use Rattle.gf_token.specs.declared.fault.Why.{Why}
 use Rattle.gf_token.specs.declared.fault.Why.TheVariants.{SumBelowOne, NoEntry, Expected}

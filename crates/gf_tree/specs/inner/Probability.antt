@@ -4,7 +4,7 @@ use Rattle.std.specs.Prelude.{int_lt, pos, if◌then◌else◌}
 use Rattle.std.specs.Ordering.{int_eq}
 use Rattle.gf_fraction.specs.Ratio.{Ratio}
 use Rattle.gf_fraction.specs.declared.fraction.NumberFault.{NumberFault}
-use Rattle.gf_fraction.specs.inner.Computed.{number_of, sum_of}
+use Rattle.gf_fraction.specs.Offered.{number_of, sum_of}
 use Rattle.gf_token.specs.NumberWhy.{why_of}
 use Rattle.gf_token.specs.declared.fault.Why.{Why}
 use Rattle.gf_token.specs.declared.fault.Why.TheVariants.{SumOverflow, NegativeProbability}

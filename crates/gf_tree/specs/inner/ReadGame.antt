@@ -3,7 +3,7 @@
 use Rattle.std.specs.Prelude.{List, Result}
 use Rattle.gf_token.specs.Token.{Token}
 use Rattle.gf_token.specs.declared.fault.Why.{Why}
-use Rattle.gf_token.specs.inner.Machine as any_format
+use Rattle.gf_token.specs.Offered as any_format
 use Rattle.gf_tree.specs.Game.{Game}
 use Rattle.gf_tree.specs.GameCode.{no_node}
 use Rattle.gf_tree.specs.Grown.{grow, root}

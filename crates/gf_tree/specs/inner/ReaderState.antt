@@ -10,8 +10,8 @@ use Rattle.gf_token.specs.Token.{Lexeme, lexeme}
 use Rattle.gf_token.specs.Token.Token.{Text}
 use Rattle.gf_token.specs.TokenSpelling.{Spells}
 use Rattle.gf_token.specs.declared.fault.Fault.{Fault}
-use Rattle.gf_token.specs.inner.Machine as any_format
-pub use Rattle.gf_token.specs.inner.Machine.{Fails, Goes, HasPassedPlace}
+use Rattle.gf_token.specs.Offered as any_format
+pub use Rattle.gf_token.specs.Offered.{Fails, Goes, HasPassedPlace}
 use Rattle.gf_tree.specs.Description.{InformationSet, SetKey}
 use Rattle.gf_tree.specs.FiniteMap.{Described}
 use Rattle.gf_tree.specs.Game.{Node}
@@ -91,7 +91,7 @@ ReadsAction old new = (new ≡ record old {
 abbrev pub ReadsSet : Reader → Reader → Type 0
 ReadsSet old new = (new ≡ record old {
   tokens = new.tokens;
-  indexing = new.indexing;
+  seed = new.seed;
   sets = new.sets;
 }) × Grows old.sets.known new.sets.known × IsNoLonger old new
 

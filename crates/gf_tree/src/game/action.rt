@@ -7,7 +7,7 @@ use gf_fraction::Fraction;
 use gf_token::Label;
 
 /// An action of an information set: its label, and its probability if chance moves.
-#[derive(Clone, Copy)]
+#[derive(Clone, Copy, PartialEq, Eq)]
 pub struct Action<'a> {
     pub label: Label<'a>,
     pub probability: Option<Fraction>,

@@ -31,11 +31,12 @@ impl<'g, 'a> Branches<'g, 'a> {
         ensures trees { branches_left result ≡ child_trees (subtree_at game.entry.now.tree at) }
         ensures none { branches_given result ≡ 0 }
     {
+        prove!(at < game.len());
         Branches {
             game,
             at,
             before: 0,
-            place: game.place_below(at),
+            place: at + 1,
         }
     }
 

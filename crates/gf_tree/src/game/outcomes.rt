@@ -7,18 +7,17 @@ ghost use Rattle.gf_token.specs.Positions.{at_position};
 ghost use Rattle.gf_tree.specs.inner.KnownOutcomes.{with_pending_outcome, with_pending_payoff};
 ghost use Rattle.gf_tree.specs.inner.StoredOutcomes.{end_of};
 
-use crate::numbers::indexing::Indexing;
-use crate::numbers::{Numbers, next_place};
+use crate::hashers::{Hashers, Seed, find, make_room, next_place, push};
 use gf_fraction::Fraction;
 use gf_token::Label;
+use indexmap::IndexMap;
 use std::alloc::{AllocError, Global};
 use std::marker::Model;
 
-/// An outcome that is known, in 32 bytes: its number, how many payoffs it has, its name, and where
-/// its payoffs begin among those of all outcomes.
-#[derive(Clone, Copy)]
+/// What is stored of an outcome, in 32 bytes: how many payoffs it has, its name, and where its
+/// payoffs begin among those of all outcomes.
+#[derive(Clone, Copy, Drop)]
 struct StoredOutcome<'a> {
-    number: u32,
     count: u32,
     name: Label<'a>,
     start: usize,
@@ -42,8 +41,7 @@ impl<'a> StoredOutcome<'a> {
 #[derive(Drop)]
 pub(crate) struct Outcomes<'a> {
     alloc: Global,
-    numbers: Numbers,
-    entries: Vec<StoredOutcome<'a>>,
+    entries: IndexMap<u32, StoredOutcome<'a>, Hashers>,
     payoffs: Vec<Fraction>,
     from: usize,
 }
@@ -54,9 +52,9 @@ impl<'a> Model for Outcomes<'a> {
 
     ghost Value = { KnownOutcomes };
 
-    ghost view = { λ o. stored_outcomes o.entries.items o.payoffs.items o.from };
+    ghost view = { λ o. stored_outcomes o.entries.entries o.payoffs.items o.from };
 
-    ghost invariant = { λ o. AreOutcomes o.numbers o.entries.items o.payoffs.items o.from };
+    ghost invariant = { λ o. AreOutcomes o.entries.entries o.payoffs.items o.from };
 }
 
 impl<'a> Outcomes<'a> {
@@ -66,8 +64,7 @@ impl<'a> Outcomes<'a> {
     {
         Outcomes {
             alloc,
-            numbers: Numbers::new(),
-            entries: Vec::new(alloc),
+            entries: IndexMap::with_hasher(alloc, Hashers::of_few()),
             payoffs: Vec::new(alloc),
             from: 0,
         }
@@ -75,11 +72,14 @@ impl<'a> Outcomes<'a> {
 
     /// The place of an outcome.
     #[inline(always)]
-    #[tactic(auto, using(crate::proofs::lemmas::stores::OutcomePlaces::found))]
+    #[tactic(auto, using(crate::proofs::lemmas::stores::OutcomesStored::numbers))]
     pub(crate) fn find(&self, number: u32) -> Option<u32>
         ensures { result ≡ position (nat_eq number) (map (λ o. o.key) self.now.known) }
     {
-        self.numbers.place(number)
+        match find(&self.entries, &number, number.wrapping_sub(1) as usize) {
+            Some(place) => Some(place as u32),
+            None => None,
+        }
     }
 
     /// How many outcomes there are.
@@ -95,7 +95,8 @@ impl<'a> Outcomes<'a> {
         requires { place < length self.now.known }
         ensures { option_map (λ o. o.key) (slice_get self.now.known place) ≡ Some result }
     {
-        self.entries[place as usize].number
+        let (number, _) = self.entries.get_index(place as usize).unwrap();
+        *number
     }
 
     /// The name of the outcome at a place.
@@ -105,7 +106,8 @@ impl<'a> Outcomes<'a> {
         ensures { option_map (λ o. o.description.name) (slice_get self.now.known place)
             ≡ Some (label_of result) }
     {
-        self.entries[place as usize].name
+        let (_, outcome) = self.entries.get_index(place as usize).unwrap();
+        outcome.name
     }
 
     /// The payoffs of the outcome at a place.
@@ -115,16 +117,21 @@ impl<'a> Outcomes<'a> {
         ensures { option_map (λ o. o.description.payoffs) (slice_get self.now.known place)
             ≡ Some result.now }
     {
-        let entry = self.entries[place as usize];
-        &self.payoffs[entry.start..entry.end()]
+        let (_, outcome) = self.entries.get_index(place as usize).unwrap();
+        &self.payoffs[outcome.start..outcome.end()]
     }
 
     /// The number of the outcome at a position, from 1.
-    #[tactic(auto, using(crate::proofs::lemmas::stores::OutcomePlaces::numbers))]
     pub(crate) fn at(&self, i: usize) -> Option<u32>
         ensures { result ≡ at_position (map (λ o. o.key) self.now.known) i }
     {
-        self.numbers.number(i)
+        if i == 0 {
+            return None;
+        }
+        match self.entries.get_index(i - 1) {
+            Some((number, _)) => Some(*number),
+            None => None,
+        }
     }
 
     /// Begins the description of an outcome.
@@ -135,7 +142,7 @@ impl<'a> Outcomes<'a> {
     }
 
     /// Adds a payoff to the description. After an `Err` nothing has changed.
-    #[tactic(auto, using(crate::proofs::lemmas::stores::StoredPayoffs::payoff_pushed))]
+    #[tactic(auto, using(crate::proofs::lemmas::stores::OutcomesStored::payoff_pushed))]
     pub(crate) fn push(&mut self, payoff: Fraction) -> Result<(), AllocError>
         ensures ok { OnOk result (self.new ≡ with_pending_payoff self.old payoff) }
         ensures err { OnErr result (self.new ≡ self.old) }
@@ -148,10 +155,10 @@ impl<'a> Outcomes<'a> {
 
     /// Ends the description: it is that of this outcome, which was not known. Returns the outcome's
     /// place. After an `Err` nothing has changed.
-    #[tactic(auto, using(crate::proofs::lemmas::stores::OutcomePlaces::found))]
+    #[tactic(auto, using(crate::proofs::lemmas::stores::OutcomesStored::numbers))]
     pub(crate) fn end(
         &mut self,
-        indexing: &mut Indexing<'_>,
+        seed: &mut Seed<'_>,
         number: u32,
         name: Label<'a>,
     ) -> Result<u32, AllocError>
@@ -166,14 +173,13 @@ impl<'a> Outcomes<'a> {
         let Ok(count) = u32::try_from(end - self.from) else {
             return Err(AllocError);
         };
-        self.entries.reserve(1)?;
-        self.numbers.insert(self.alloc, indexing, number, place)?;
-        self.entries.push_reserved(StoredOutcome {
-            number,
+        make_room(&mut self.entries, self.alloc, seed)?;
+        let outcome = StoredOutcome {
             count,
             name,
             start: self.from,
-        });
+        };
+        push(&mut self.entries, number, outcome);
         self.from = end;
         Ok(place)
     }

@@ -2,7 +2,7 @@
 
 use crate::game::outcomes::Outcomes;
 use crate::game::sets::Sets;
-use crate::numbers::indexing::Indexing;
+use crate::hashers::Seed;
 use gf_token::Label;
 
 /// All of a game but its nodes.
@@ -11,8 +11,8 @@ pub(crate) struct Parts<'a> {
     pub title: Label<'a>,
     pub comment: Label<'a>,
     pub players: Vec<Label<'a>>,
-    /// How its numbers are found.
-    pub indexing: Indexing<'a>,
+    /// What the hashers of the maps begin with.
+    pub seed: Seed<'a>,
     pub sets: Sets<'a>,
     pub outcomes: Outcomes<'a>,
 }

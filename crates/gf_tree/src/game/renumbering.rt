@@ -11,13 +11,13 @@ use crate::game::Game;
 use crate::game::outcomes::Outcomes;
 use crate::game::parts::Parts;
 use crate::game::sets::Sets;
-use crate::numbers::indexing::Indexing;
+use crate::hashers::Seed;
 use std::alloc::{AllocError, Global};
 
 /// Adds the set at this place, by another number.
 fn add_set<'a>(
     to: &mut Sets<'a>,
-    indexing: &mut Indexing<'_>,
+    seed: &mut Seed<'_>,
     from: &Sets<'a>,
     place: u32,
     number: u32,
@@ -34,14 +34,14 @@ fn add_set<'a>(
         to.push(action.label, action.probability)?;
     }
     let (player, _) = from.key(place);
-    to.end(indexing, player, number, from.name(place))?;
+    to.end(seed, player, number, from.name(place))?;
     Ok(())
 }
 
 /// Adds the outcome at this place, by another number.
 fn add_outcome<'a>(
     to: &mut Outcomes<'a>,
-    indexing: &mut Indexing<'_>,
+    seed: &mut Seed<'_>,
     from: &Outcomes<'a>,
     place: u32,
     number: u32,
@@ -55,7 +55,7 @@ fn add_outcome<'a>(
     for payoff in from.payoffs(place) {
         to.push(*payoff)?;
     }
-    to.end(indexing, number, from.name(place))?;
+    to.end(seed, number, from.name(place))?;
     Ok(())
 }
 
@@ -84,10 +84,10 @@ impl<'a> Game<'a> {
     {
         let from = &self.parts.sets;
         let mut renumbered = Sets::new(alloc);
-        let mut indexing = self.parts.indexing;
+        let mut seed = self.parts.seed;
         for place in 0..from.len() as u32 {
             let number = self.listed_number(sets, place);
-            add_set(&mut renumbered, &mut indexing, from, place, number)?;
+            add_set(&mut renumbered, &mut seed, from, place, number)?;
         }
         Ok(renumbered)
     }
@@ -105,10 +105,10 @@ impl<'a> Game<'a> {
     {
         let from = &self.parts.outcomes;
         let mut renumbered = Outcomes::new(alloc);
-        let mut indexing = self.parts.indexing;
+        let mut seed = self.parts.seed;
         for place in 0..from.len() as u32 {
             let number = outcomes[place as usize];
-            add_outcome(&mut renumbered, &mut indexing, from, place, number)?;
+            add_outcome(&mut renumbered, &mut seed, from, place, number)?;
         }
         Ok(renumbered)
     }
@@ -141,7 +141,7 @@ impl<'a> Game<'a> {
             title: self.parts.title,
             comment: self.parts.comment,
             players,
-            indexing: self.parts.indexing,
+            seed: self.parts.seed,
             sets,
             outcomes,
         };

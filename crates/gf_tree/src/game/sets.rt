@@ -14,19 +14,24 @@ ghost use Rattle.gf_tree.specs.KnownSets.{known_of, number_among, with_pending_a
 ghost use Rattle.gf_tree.specs.KnownSets.{with_pending_set};
 
 use crate::game::action::{Action, same_actions};
-use crate::numbers::indexing::Indexing;
-use crate::numbers::{Numbers, next_place};
+use crate::hashers::{Hashers, Seed, find, make_room, next_place, push};
 use gf_fraction::Fraction;
 use gf_token::Label;
+use indexmap::IndexMap;
 use std::alloc::{AllocError, Global};
 use std::marker::Model;
 
-/// A set that is known, in 40 bytes: its key, its number among the sets of its player, how many
-/// actions it has, its name, and where its actions begin among those of all sets.
-#[derive(Clone, Copy)]
-struct StoredSet<'a> {
+/// A set, by its player and its number.
+#[derive(Clone, Copy, PartialEq, Eq, Hash, Drop)]
+struct SetKey {
     player: u32,
     number: u32,
+}
+
+/// What is stored of a set, in 32 bytes: its number among the sets of its player, how many actions
+/// it has, its name, and where its actions begin among those of all sets.
+#[derive(Clone, Copy, Drop)]
+struct StoredSet<'a> {
     among: u32,
     count: u32,
     name: Label<'a>,
@@ -44,78 +49,123 @@ impl<'a> StoredSet<'a> {
     }
 }
 
-/// The numbers of a player's sets, if he has had any.
+type Entries<'a> = IndexMap<SetKey, StoredSet<'a>, Hashers>;
+
+/// A player's sets in order of first use.
+#[derive(Drop)]
+struct OwnSets {
+    numbers: Vec<u32>,
+    /// The place of the last one. Nothing is proved of it.
+    last: u32,
+}
+
+impl Model for OwnSets {
+    ghost use Rattle.std.specs.Prelude.{ℕ, List};
+
+    ghost Value = { List ℕ };
+
+    ghost view = { λ o. o.numbers.items };
+}
+
+impl OwnSets {
+    /// No sets.
+    fn new(alloc: Global) -> OwnSets
+        ensures { result ≡ [] }
+    {
+        OwnSets {
+            numbers: Vec::new(alloc),
+            last: 0,
+        }
+    }
+
+    /// Adds the number of the set at a place, and returns how many sets there are then.
+    fn add(&mut self, number: u32, place: u32) -> Result<u32, AllocError>
+        ensures own { OnOk result (self.new ≡ self.old ++ number ∷ []) }
+        ensures count { IfOk result (λ count. count ≡ length self.old + 1) }
+        ensures err { OnErr result (self.new ≡ self.old) }
+    {
+        let before = next_place(self.numbers.len())?;
+        self.numbers.push(number)?;
+        self.last = place;
+        Ok(before + 1)
+    }
+}
+
+/// A player's sets, if he has had any.
 #[inline(always)]
-fn numbers_of(players: &[Numbers], player: u32) -> Option<&Numbers>
+fn sets_of(players: &[OwnSets], player: u32) -> Option<&OwnSets>
     ensures { MatchOption result (get_or players.now player [] ≡ [])
-        (λ numbers. numbers.now ≡ get_or players.now player []) }
+        (λ own. own.now ≡ get_or players.now player []) }
 {
     players.get(player as usize)
 }
 
-/// Makes places for the numbers of all players up to this one.
-fn reach(players: &mut Vec<Numbers>, player: u32) -> Result<(), AllocError>
+/// Makes places for the sets of all players up to this one.
+fn reach(players: &mut Vec<OwnSets>, alloc: Global, player: u32) -> Result<(), AllocError>
     ensures same { (any : ℕ) → get_or players.new.items any [] ≡ get_or players.old.items any [] }
     ensures ok { OnOk result (player < length players.new.items) }
 {
     while players.len() <= player as usize {
-        if players.push(Numbers::new()).is_err() {
+        if players.push(OwnSets::new(alloc)).is_err() {
             return Err(AllocError);
         }
     }
     Ok(())
 }
 
-/// Adds a number to those of a player, and returns how many he then has.
-fn add_number(
-    players: &mut Vec<Numbers>,
+/// Adds a set to those of a player, and returns how many he then has.
+fn add_set(
+    players: &mut Vec<OwnSets>,
     alloc: Global,
-    indexing: &mut Indexing<'_>,
     player: u32,
     number: u32,
     place: u32,
 ) -> Result<u32, AllocError>
-    requires absent { lookup (nat_eq number) (get_or players.old.items player []) ≡ None }
-    requires few { length (get_or players.old.items player []) + 1 < 2 ^ 32 }
-    requires place { place + 1 < 2 ^ 32 }
     ensures others { (other : ℕ) → other ≢ player
         → get_or players.new.items other [] ≡ get_or players.old.items other [] }
     ensures own { OnOk result (get_or players.new.items player []
-        ≡ get_or players.old.items player [] ++ (number, place) ∷ []) }
+        ≡ get_or players.old.items player [] ++ number ∷ []) }
     ensures count { IfOk result (λ count. count ≡ length (get_or players.old.items player []) + 1) }
     ensures err { OnErr result (get_or players.new.items player []
         ≡ get_or players.old.items player []) }
 {
-    reach(players, player)?;
-    let numbers = &mut players[player as usize];
-    let before = numbers.len() as u32;
-    numbers.insert(alloc, indexing, number, place)?;
-    Ok(before + 1)
+    reach(players, alloc, player)?;
+    players[player as usize].add(number, place)
 }
 
 /// The place of a player's last set, if he has any.
-fn last_place(players: &[Numbers], player: u32) -> Option<u32> {
-    match numbers_of(players, player) {
-        Some(numbers) => numbers.last_place(),
+fn last_place(players: &[OwnSets], player: u32) -> Option<u32> {
+    match sets_of(players, player) {
+        Some(own) => Some(own.last),
         None => None,
+    }
+}
+
+/// Where a set may be: it is its player's only one, or all sets are numbered in one sequence.
+#[inline(always)]
+fn likely_place(players: &[OwnSets], key: SetKey) -> usize {
+    match sets_of(players, key.player) {
+        Some(own) if own.numbers.len() == 1 => own.last as usize,
+        _ => key.number.wrapping_sub(1) as usize,
     }
 }
 
 /// Where the actions from here on begin, and how many there are. If they are the same as those of
 /// the set at a place, where those begin instead.
+#[tactic(auto, using(crate::proofs::lemmas::stores::SetsStored::within))]
 fn stretch_like(
-    entries: &[StoredSet<'_>],
+    entries: &Entries<'_>,
     actions: &[Action<'_>],
     from: usize,
     place: Option<u32>,
 ) -> Result<(usize, u32), AllocError>
-    requires { AreStretches (λ e. e.start) end_of entries.now actions.now from }
+    requires { AreStretches (λ e. e.1.start) (λ e. end_of e.1) entries.now.entries actions.now from }
     ensures { IfOk result (λ s. HoldActions actions.now from s.0 (s.0 + s.1)) }
 {
     if let Some(place) = place {
-        if let Some(entry) = entries.get(place as usize) {
-            if same_actions(&actions[entry.start..entry.end()], &actions[from..]) {
-                return Ok((entry.start, entry.count));
+        if let Some((_, set)) = entries.get_index(place as usize) {
+            if same_actions(&actions[set.start..set.end()], &actions[from..]) {
+                return Ok((set.start, set.count));
             }
         }
     }
@@ -134,26 +184,26 @@ fn stretch_like(
 #[derive(Drop)]
 pub(crate) struct Sets<'a> {
     alloc: Global,
-    players: Vec<Numbers>,
-    entries: Vec<StoredSet<'a>>,
-    /// How many actions each has, stored a second time: this is read at each node, and all of it
-    /// stays in the cache.
-    counts: Vec<u32>,
+    entries: Entries<'a>,
+    /// No set has a greater number, so one that has is new.
+    greatest: u32,
+    players: Vec<OwnSets>,
     actions: Vec<Action<'a>>,
     from: usize,
 }
 
 impl<'a> Model for Sets<'a> {
     ghost use Rattle.gf_tree.specs.KnownSets.{KnownSets};
-    ghost use Rattle.std.specs.Prelude.{◌≡◌, map};
+    ghost use Rattle.std.specs.Prelude.{◌≤◌};
+    ghost use Rattle.std.specs.List.{AllByRecursion};
     ghost use Rattle.gf_tree.specs.inner.StoredSets.{stored_sets, AreSets};
 
     ghost Value = { KnownSets };
 
-    ghost view = { λ s. stored_sets s.entries.items s.actions.items s.from };
+    ghost view = { λ s. stored_sets s.entries.entries s.actions.items s.from };
 
-    ghost invariant = { λ s. AreSets s.players.items s.entries.items s.actions.items s.from
-        × (s.counts.items ≡ map (λ e. e.count) s.entries.items) };
+    ghost invariant = { λ s. AreSets s.players.items s.entries.entries s.actions.items s.from
+        × AllByRecursion (λ e. e.0.number ≤ s.greatest) s.entries.entries };
 }
 
 impl<'a> Sets<'a> {
@@ -163,23 +213,26 @@ impl<'a> Sets<'a> {
     {
         Sets {
             alloc,
+            entries: IndexMap::with_hasher(alloc, Hashers::of_few()),
+            greatest: 0,
             players: Vec::new(alloc),
-            entries: Vec::new(alloc),
-            counts: Vec::new(alloc),
             actions: Vec::new(alloc),
             from: 0,
         }
     }
 
     /// The place of a set.
-    #[tactic(auto, using(crate::proofs::lemmas::stores::SetPlaces::sets_of_player))]
     #[inline(always)]
     pub(crate) fn find(&self, player: u32, number: u32) -> Option<u32>
         ensures { result
             ≡ position (same_set (set_of player number)) (map (λ s. s.key) self.now.known) }
     {
-        match numbers_of(&self.players, player) {
-            Some(numbers) => numbers.place(number),
+        if number > self.greatest {
+            return None;
+        }
+        let key = SetKey { player, number };
+        match find(&self.entries, &key, likely_place(&self.players, key)) {
+            Some(place) => Some(place as u32),
             None => None,
         }
     }
@@ -199,8 +252,8 @@ impl<'a> Sets<'a> {
         ensures { option_map (λ s. s.key) (slice_get self.now.known place)
             ≡ Some (set_of result.0 result.1) }
     {
-        let entry = self.entries[place as usize];
-        (entry.player, entry.number)
+        let (key, _) = self.entries.get_index(place as usize).unwrap();
+        (key.player, key.number)
     }
 
     /// The name of the set at a place.
@@ -210,7 +263,8 @@ impl<'a> Sets<'a> {
         ensures { option_map (λ s. s.description.name) (slice_get self.now.known place)
             ≡ Some (label_of result) }
     {
-        self.entries[place as usize].name
+        let (_, set) = self.entries.get_index(place as usize).unwrap();
+        set.name
     }
 
     /// The actions of the set at a place.
@@ -220,52 +274,48 @@ impl<'a> Sets<'a> {
         ensures { option_map (λ s. s.description.actions) (slice_get self.now.known place)
             ≡ Some (actions_of result.now) }
     {
-        let entry = self.entries[place as usize];
-        &self.actions[entry.start..entry.end()]
+        let (_, set) = self.entries.get_index(place as usize).unwrap();
+        &self.actions[set.start..set.end()]
     }
 
     /// How many actions the set at a place has.
     #[inline(always)]
-    #[tactic(auto, using(crate::proofs::lemmas::stores::SetCounts::is_counted))]
     pub(crate) fn action_count(&self, place: u32) -> u32
         requires { place < length self.now.known }
         ensures { option_map (λ s. length s.description.actions) (slice_get self.now.known place)
             ≡ Some result }
     {
-        self.counts[place as usize]
+        let (_, set) = self.entries.get_index(place as usize).unwrap();
+        set.count
     }
 
     /// The number of the set at a place, from 1, among the sets of its player.
     #[inline(always)]
-    #[tactic(auto, using(crate::proofs::lemmas::stores::SetNumbers::is_among))]
     pub(crate) fn first_use_number(&self, place: u32) -> u32
         requires { place < length self.now.known }
         ensures { number_among self.now.known place ≡ Some result }
     {
-        self.entries[place as usize].among
+        let (_, set) = self.entries.get_index(place as usize).unwrap();
+        set.among
     }
 
     /// How many sets a player has.
-    #[tactic(auto, using(crate::proofs::lemmas::stores::SetPlaces::sets_of_player))]
     pub(crate) fn count(&self, player: u32) -> usize
         ensures { result ≡ length (known_of player self.now.known) }
     {
-        match numbers_of(&self.players, player) {
-            Some(numbers) => numbers.len(),
+        match sets_of(&self.players, player) {
+            Some(own) => own.numbers.len(),
             None => 0,
         }
     }
 
     /// The number of a player's set at a position, from 1.
-    #[tactic(auto, using(crate::proofs::lemmas::stores::SetPlaces::sets_of_player))]
     pub(crate) fn number(&self, player: u32, i: usize) -> Option<u32>
         ensures { result
             ≡ at_position (map (λ s. s.key.number) (known_of player self.now.known)) i }
     {
-        match numbers_of(&self.players, player) {
-            Some(numbers) => numbers.number(i),
-            None => None,
-        }
+        let own = sets_of(&self.players, player)?;
+        own.numbers.get(i.checked_sub(1)?).copied()
     }
 
     /// Begins the description of a set.
@@ -302,7 +352,7 @@ impl<'a> Sets<'a> {
     /// After an `Err` nothing has changed.
     pub(crate) fn end(
         &mut self,
-        indexing: &mut Indexing<'_>,
+        seed: &mut Seed<'_>,
         player: u32,
         number: u32,
         name: Label<'a>,
@@ -315,29 +365,19 @@ impl<'a> Sets<'a> {
         ensures err { OnErr result (self.new ≡ self.old) }
     {
         let place = next_place(self.entries.len())?;
-        self.entries.reserve(1)?;
-        self.counts.reserve(1)?;
+        make_room(&mut self.entries, self.alloc, seed)?;
         let like = last_place(&self.players, player);
         let (start, count) = stretch_like(&self.entries, &self.actions, self.from, like)?;
-        let among = add_number(
-            &mut self.players,
-            self.alloc,
-            indexing,
-            player,
-            number,
-            place,
-        )?;
-        let entry = StoredSet {
-            player,
-            number,
+        let among = add_set(&mut self.players, self.alloc, player, number, place)?;
+        let set = StoredSet {
             among,
             count,
             name,
             start,
         };
-        self.entries.push_reserved(entry);
-        self.counts.push_reserved(count);
-        self.from = self.from.max(entry.end());
+        push(&mut self.entries, SetKey { player, number }, set);
+        self.greatest = self.greatest.max(number);
+        self.from = self.from.max(set.end());
         self.actions.truncate(self.from);
         Ok(place)
     }

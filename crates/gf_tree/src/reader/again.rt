@@ -17,7 +17,7 @@ use gf_fraction::Fraction;
 use gf_token::{Cursor, Fault, Label, What, Why};
 
 /// Reads a number that has to have this value.
-#[tactic(auto, using(gf_fraction::proofs::ComputedAnswers::number_answers))]
+#[tactic(auto, using(gf_fraction::proofs::Offered::number_answers))]
 fn same_probability(tokens: &mut Cursor<'_>, probability: Fraction) -> Result<(), Fault>
     ensures machine { (c : Content) (b : Begun) (others : List spec_action)
         → Goes (heard (KnownProbability b probability others) c tokens.old) result
@@ -117,7 +117,7 @@ pub(crate) fn same_set<'a>(
 }
 
 /// Reads a payoff of an outcome that is known, and one comma if there is one.
-#[tactic(auto, using(gf_fraction::proofs::ComputedAnswers::number_answers))]
+#[tactic(auto, using(gf_fraction::proofs::Offered::number_answers))]
 fn same_payoff(tokens: &mut Cursor<'_>, payoff: Fraction) -> Result<(), Fault>
     ensures machine { (c : Content) (others : List Ratio)
         → Goes (heard (KnownPayoff false (payoff ∷ others)) c tokens.old) result

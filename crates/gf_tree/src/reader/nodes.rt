@@ -29,7 +29,7 @@ impl<'a> Reader<'a> {
     }
 
     /// Reads the number of a player.
-    #[tactic(auto, using(gf_token::proofs::ReadingIndices::index_answers))]
+    #[tactic(auto, using(gf_token::proofs::Offered::index_answers))]
     #[inline(always)]
     fn player(&mut self) -> Result<u32, Fault>
         ensures machine { (node : List ℕ) → MatchResult result

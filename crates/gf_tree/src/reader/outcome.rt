@@ -33,10 +33,8 @@ fn known_outcome(outcomes: &Outcomes<'_>, number: u32) -> Option<u32>
     ensures unknown { IfNone result (description_at nat_eq outcomes.now.known number ≡ None) }
     ensures known { IfSome result (λ place. FoundOutcome outcomes.now.known number place) }
 {
-    match outcomes.find(number) {
-        Some(place) => Some(place),
-        None => None,
-    }
+    let place = outcomes.find(number)?;
+    Some(place)
 }
 
 impl<'a> Reader<'a> {
@@ -47,17 +45,17 @@ impl<'a> Reader<'a> {
         ensures content { OnOk result (content_of self.new ≡ with_outcome (content_of self.old)
             number (outcome_with (label_of name.entry) self.old.outcomes.pending)) }
         ensures kept { self.new
-            ≡ record self.old { indexing = self.new.indexing; outcomes = self.new.outcomes } }
+            ≡ record self.old { seed = self.new.seed; outcomes = self.new.outcomes } }
         ensures grows { OnOk result (Grows self.old.outcomes.known self.new.outcomes.known) }
         ensures key { IfOk result (λ place. option_map (λ o. o.key)
             (at_position self.new.outcomes.known (place + 1)) ≡ Some number) }
         ensures place { IfOk result (λ place. place < length self.new.outcomes.known) }
     {
-        self.outcomes.end(&mut self.indexing, number, name)
+        self.outcomes.end(&mut self.seed, number, name)
     }
 
     /// Reads a payoff of a new outcome, and one comma if there is one.
-    #[tactic(auto, using(gf_fraction::proofs::ComputedAnswers::number_answers))]
+    #[tactic(auto, using(gf_fraction::proofs::Offered::number_answers))]
     fn payoff(&mut self) -> Result<(), Fault>
         ensures machine { (b : Begun) (number : ℕ) (name : List ℕ) (left : ℕ) → Goes
             (answer (NewPayoff false b number (outcome_with name self.old.outcomes.pending)
@@ -189,7 +187,7 @@ impl<'a> Reader<'a> {
 
     /// Reads the number of a node's outcome, or 0 for none, and the outcome's description, if there
     /// is one. Whether there is one is checked first, as for sets. This completes the node.
-    #[tactic(auto, using(gf_token::proofs::ReadingIndices::index_answers))]
+    #[tactic(auto, using(gf_token::proofs::Offered::index_answers))]
     #[inline(always)]
     pub(super) fn outcome<R: Receive<'a>>(
         &mut self,

@@ -2,8 +2,8 @@
 
 ghost use Rattle.std.specs.Prelude.{◌≡◌, IfOk, IfSome};
 ghost use Rattle.gf_fraction.specs.Ratio.{IsFraction};
-ghost use Rattle.gf_fraction.specs.inner.Computed.{number_of, sum_of};
-ghost use Rattle.gf_token.specs.inner.Indices.{positive};
+ghost use Rattle.gf_fraction.specs.Offered.{number_of, sum_of};
+ghost use Rattle.gf_token.specs.Offered.{positive};
 ghost use Rattle.gf_tree.specs.inner.Probability.{share_of};
 ghost use Rattle.gf_tree.specs.inner.Shares.{shared};
 

@@ -6,7 +6,7 @@ use std::alloc::AllocError;
 
 /// What comes before the nodes of a file: its title, its comment, which is empty if there is none,
 /// and the names of the players.
-#[derive(Clone, Copy)]
+#[derive(Clone, Copy, PartialEq, Eq)]
 pub struct ToldHeading<'n, 'a> {
     pub title: Label<'a>,
     pub comment: Label<'a>,

@@ -126,14 +126,14 @@ impl<'a> Reader<'a> {
         ensures content { OnOk result (content_of self.new ≡ with_set (content_of self.old)
             (set_of player number) (set_with (label_of name.entry) self.old.sets.pending)) }
         ensures kept { self.new
-            ≡ record self.old { indexing = self.new.indexing; sets = self.new.sets } }
+            ≡ record self.old { seed = self.new.seed; sets = self.new.sets } }
         ensures grows { OnOk result (Grows self.old.sets.known self.new.sets.known) }
         ensures begins { (node : List ℕ) → IfOk result (λ place.
             begun_with self.new.sets.known node (place + 1) ≡ begun node (set_of player number)
             (set_with (label_of name.entry) self.old.sets.pending)) }
         ensures place { IfOk result (λ place. place < length self.new.sets.known) }
     {
-        self.sets.end(&mut self.indexing, player, number, name)
+        self.sets.end(&mut self.seed, player, number, name)
     }
 
     /// Reads the closing brace of the actions of a set that is not known, and returns the set's
@@ -226,7 +226,7 @@ impl<'a> Reader<'a> {
     ///
     /// Whether a description follows is checked first: mostly it does if the set is new, and does
     /// not if it is known, so what comes next does not wait for the set's place.
-    #[tactic(auto, using(gf_token::proofs::ReadingIndices::index_answers))]
+    #[tactic(auto, using(gf_token::proofs::Offered::index_answers))]
     #[inline(always)]
     pub(super) fn set(&mut self, player: u32) -> Result<u32, Fault>
         ensures machine { (node : List ℕ) → MatchResult result

@@ -10,7 +10,7 @@ use Rattle.gf_canon.specs.inner.KindWord.{word_of}
 use Rattle.gf_canon.proofs.lemmas.files.EitherFormat.{placed}
 use Rattle.gf_canon.proofs.lemmas.files.Formats.{named_by_word, none_offending, two_words}
 use Rattle.gf_nfg.specs.Judgement as strategic_file
-use Rattle.gf_nfg.proofs.lemmas.places.Judged.{only_memory as only_memory_for_table}
+use Rattle.gf_nfg.proofs.Offered.{only_memory as only_memory_for_table}
 use Rattle.gf_tree.specs.Judgement as extensive_file
 
 -- bytes that mean a file are refused for lack of memory alone

@@ -5,11 +5,9 @@ use Rattle.gf_canon.proofs.Common.{canonical_game, game_text, GameFile, IsGameFi
 use Rattle.gf_canon.proofs.Common.{SameFile, canonical_file, canonical_text, extensive, strategic}
 use Rattle.gf_canon.proofs.Common.{same_by_canonical, canonical_is_game, canonical_twice}
 use Rattle.gf_nfg.specs.TableText.{table_text}
-use Rattle.gf_nfg.proofs.lemmas.tables.Same.{same_is_equal}
-use Rattle.gf_nfg.proofs.lemmas.texts.OneTable.{text_reads_back as table_reads_back}
-use Rattle.gf_nfg.proofs.lemmas.tables.Spelled.{spelled_is_spellable as spelled_table}
-use Rattle.gf_nfg.proofs.lemmas.places.Led.{spells_one_table}
-use Rattle.gf_tree.proofs.lemmas.games.Spelled.{spelled_is_spellable as spelled_game}
+use Rattle.gf_nfg.proofs.Offered.{same_is_equal, text_reads_back as table_reads_back}
+use Rattle.gf_nfg.proofs.Offered.{spelled_is_spellable as spelled_table, spells_one_table}
+use Rattle.gf_tree.proofs.Offered.{spelled_is_spellable as spelled_game}
 use Rattle.gf_canon.proofs.lemmas.files.Formats.{file_word, tokens_in, two_words}
 use Rattle.gf_canon.proofs.lemmas.texts.ReadsBack.{text_reads_back}
 use Rattle.gf_canon.proofs.lemmas.texts.Spellables.{canonical_is_spellable}

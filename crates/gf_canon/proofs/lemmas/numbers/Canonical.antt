@@ -6,10 +6,9 @@ use Common.{player_keys, IsSpellable, get_or-map, length-map, map-append, renumb
 use Common.{positions, Described, same_set, in_keys, length, get_or, filter, Global, ne_eqb, SetKey}
 use Common.{IsGame, nat_eq, arith, Agree, zero, Bool, List, ◌++◌, refl, ◌==◌, Game, ◌≡◌, suc, ◌+◌}
 use Common.{◌<◌, ◌≤◌, ◌^◌, ◌∷◌, map, Vec, inl, inr, sym, ◌∙◌, Has, has, [], ap}
-use Rattle.gf_nfg.proofs.lemmas.tables.NumbersInTurn.{get_or-numbers_from, length-numbers_from}
-use Rattle.gf_nfg.proofs.lemmas.tables.NumbersInTurn.{numbers_joined}
+use Rattle.gf_nfg.proofs.Offered.{get_or-numbers_from, length-numbers_from, numbers_joined}
 use Rattle.gf_tree.specs.ListedNumbers.{AreListed, AreNumbers, listed_numbers, number_listed}
-use Rattle.gf_tree.proofs.lemmas.games.ListedNumbers.{own_key, some_player}
+use Rattle.gf_tree.proofs.Offered.{own_key, some_player}
 use Rattle.gf_canon.specs.inner.ListedInOrder.{lists_in_order}
 use Rattle.gf_canon.proofs.lemmas.numbers.InOrder.{outcomes_in_order, sets_in_order}
 

@@ -6,8 +6,7 @@ use Rattle.gf_canon.proofs.Common.{numbers_from, Decides-eqb, player_keys, first
 use Rattle.gf_canon.proofs.Common.{positions, used_sets, of_filter, same_set, was_used, map_same, ℕ}
 use Rattle.gf_canon.proofs.Common.{sets_of, length, nat_eq, SetKey, IsGame, arith, subst, Bool, ◌+◌}
 use Rattle.gf_canon.proofs.Common.{List, ◌++◌, refl, Game, ◌∷◌, map, sym, ◌∙◌, Has, []}
-use Rattle.gf_tree.proofs.lemmas.games.FirstUseNumbers.{number_at}
-use Rattle.gf_tree.proofs.lemmas.games.PlayerSets.{sets_by_first_use}
+use Rattle.gf_tree.proofs.Offered.{number_at, sets_by_first_use}
 
 numbers_on : {K : Type 0} (same : K → K → Bool)
     → IsEquality same → (ks before after : List K) → first_uses same ks ≡ before ++ after

@@ -1,7 +1,7 @@
 -- What the maps of new numbers have at a set and at an outcome.
 use Rattle.gf_canon.proofs.Common.{◌≡◌, ℕ, List, [], ◌∷◌, Some, refl, arith, cond, map, is_eq}
 use Rattle.gf_canon.proofs.Common.{nat_cmp, nat_eq, nat_tests, same_set, set_of, set_order}
-use Rattle.gf_canon.proofs.Common.{BTreeMap, get, NewNumbers, new_outcome_number, new_set_number}
+use Rattle.gf_canon.proofs.Common.{BTreeMap, get, new_outcome_number, new_set_number}
 use Rattle.gf_canon.proofs.Common.{numbers_in, suc}
 use Rattle.std.specs.Map.{lookup}
 

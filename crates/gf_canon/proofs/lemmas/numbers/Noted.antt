@@ -4,7 +4,7 @@ use Rattle.gf_canon.proofs.Common
 use Common.{outcome_number_positive, new_outcome_number, same_set_equality, IsOnlyRenumbering, zero}
 use Common.{renumbered_node, renumbered_set, new_set_number, used_outcomes, number_of_set, BTreeMap}
 use Common.{only_outcomes, agreed_games, cons_option, Decides-eqb, flatten_map, new_numbers, Option}
-use Common.{option_map, filter_map, HasOutcome, IsEquality, unwrap_or, nat_tests, used_sets, IsSome}
+use Common.{option_map, filter_map, HasOutcome, IsEquality, unwrap_or, used_sets, IsSome}
 use Common.{map_entry, map_twice, set_order, only_sets, same_set, contains, SameGame, nat_cmp, Bool}
 use Common.{flatten, Carries, nat_eq, SetKey, set_of, IsGame, Listed, HasSet, subst, arith, is_eq}
 use Common.{Agree, cond, List, None, Some, refl, Game, Node, ◌≡◌, suc, ◌∷◌, map, sym, ◌∙◌, inl, inr}

@@ -7,7 +7,7 @@ use Rattle.gf_canon.proofs.Common.{outcome_pairs, renumbering_pairs, set_pairs, 
 use Rattle.gf_canon.proofs.Common.{get_or, Some, option_map, ◌<◌, take_all, length-map, get_or-map}
 use Rattle.std.proofs.lemmas.List.{take_more}
 use Rattle.std.proofs.lemmas.Option.{slice_get-get_or, slice_get-map}
-use Rattle.gf_nfg.proofs.lemmas.tables.NumbersInTurn.{numbers_joined}
+use Rattle.gf_nfg.proofs.Offered.{numbers_joined}
 use Rattle.gf_canon.proofs.lemmas.numbers.Canonical.{no_numbers}
 
 -- ---- one for each number

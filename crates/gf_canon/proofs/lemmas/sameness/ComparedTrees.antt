@@ -8,7 +8,7 @@ use Common.{Game, Told, Kept, IfOk, refl, ◌≡◌, map, ◌∙◌, ◌↔◌, 
 use Rattle.gf_nfg.specs.SameTable.{SameTable}
 use Rattle.gf_nfg.specs.NamedBy.{named_by}
 use Rattle.gf_canon.specs.inner.NamedBy.{are_kept}
-use Rattle.gf_tree.proofs.lemmas.games.Spelled.{spelled_is_spellable}
+use Rattle.gf_tree.proofs.Offered.{spelled_is_spellable}
 use Rattle.gf_canon.specs.inner.ComparedTrees.{AgreesWith, IsCompared}
 use Rattle.gf_canon.specs.MeaningOf.{file_of_listed}
 use Rattle.gf_canon.specs.declared.meaning.Listed.{Listed}

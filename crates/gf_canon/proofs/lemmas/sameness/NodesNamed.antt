@@ -1,32 +1,52 @@
 -- The nodes of a game without its names are its nodes without theirs.
 use Rattle.gf_canon.proofs.Common
-use Common.{first_use_numbers, first_use_number, renumbered_node, map_tree_twice, canonical_game}
-use Common.{unnamed_game, unnamed_node, Renumbering, flatten_map, option_map, filter_map, use_after}
-use Common.{map-append, file_nodes, node_after, outcome_at, renumbered, outcome_by, heading_by, ◌≡◌}
-use Common.{heading_in, map_entry, map_twice, same_set, FileNode, sets_of, flatten, node_by, Option}
-use Common.{game_by, nat_eq, set_of, set_at, Listed, set_by, use_by, arith, Aside, Names, List, ◌∷◌}
-use Common.{◌++◌, Some, None, refl, Game, Node, Kept, Bool, map, sym, ◌∙◌, Use, [], ap}
-use Rattle.std.proofs.lemmas.Iterator.Adapters.{option_map_id}
+use Common.{first_use_numbers, first_use_number, canonical_game}
+use Common.{unnamed_game, unnamed_node, flatten_map, option_map, filter_map, use_after}
+use Common.{map-append, file_nodes, node_after, outcome_at, renumbered, unnamed_outcome, heading_by, ◌≡◌}
+use Common.{heading_in, map_entry, same_set, FileNode, sets_of, flatten, node_by, Option}
+use Common.{Use, game_by, nat_eq, set_of, set_at, Listed, unnamed_set, use_by, arith, Aside, Names, List, ◌∷◌}
+use Common.{ℕ, ◌++◌, Some, None, refl, Game, Node, Kept, Bool, map, sym, ◌∙◌, [], ap}
 use Rattle.std.proofs.lemmas.List.{map-id}
 use Rattle.gf_canon.proofs.lemmas.sameness.Unnamed.{keys_still, unnamed_outcome_at}
-use Rattle.gf_canon.proofs.lemmas.sameness.Unnamed.{unnamed_outcomes, unnamed_set_at, unnamed_sets}
+use Rattle.gf_canon.proofs.lemmas.sameness.Unnamed.{unnamed_outcomes, unnamed_renumbered, unnamed_set_at}
+use Rattle.gf_canon.proofs.lemmas.sameness.Unnamed.{unnamed_sets}
 use Rattle.gf_canon.proofs.lemmas.texts.FileOf.{entries_after, file_nodes_are}
+use Rattle.gf_tree.specs.Undescribed.{undescribed, undescribed_use}
 
--- ---- with names
+-- ---- nodes that describe nothing
 
-use_kept : {K D : Type 0} (o : Option (Use K D)) → option_map (use_by (λ d. d)) o ≡ o
-use_kept o =
-    (λ i. option_map (λ u. record { key = u.key; description = option_map_id u.description i }) o)
-    ∙ option_map_id o
+undescribed_still : {K D : Type 0} (o : Option (Use K D))
+    → option_map undescribed_use (option_map undescribed_use o) ≡ option_map undescribed_use o
+undescribed_still None = refl
+undescribed_still (Some u) = refl
 
-pub node_kept : (n : FileNode) → node_by Kept n ≡ n
-node_kept n = λ i. record {
+pub undescribed_twice : (n : FileNode) → undescribed (undescribed n) ≡ undescribed n
+undescribed_twice n = λ i. record {
   name = n.name;
-  set = use_kept n.set i;
-  outcome = use_kept n.outcome i;
+  set = undescribed_still n.set i;
+  outcome = undescribed_still n.outcome i;
 }
 
--- ---- without
+undescribed_bare : {K D : Type 0} (f : D → D) (o : Option (Use K D))
+    → option_map (use_by f) (option_map undescribed_use o) ≡ option_map undescribed_use o
+undescribed_bare f None = refl
+undescribed_bare f (Some u) = refl
+
+abbrev by_name : Names → List ℕ → List ℕ
+by_name Kept name = name
+by_name Aside name = []
+
+-- what counts of a node that describes nothing
+pub by_names : (names : Names) (n : FileNode) → node_by names (undescribed n)
+    ≡ record (undescribed n) { name = by_name names n.name }
+by_names Kept n = refl
+by_names Aside n = λ i. record {
+  name = [];
+  set = undescribed_bare unnamed_set n.set i;
+  outcome = undescribed_bare unnamed_outcome n.outcome i;
+}
+
+-- ---- without names
 
 use_aside : {K D : Type 0} (same : K → K → Bool) (f : D → D) (had bare : K → Option D)
     → ((k : K) → bare k ≡ option_map f (had k)) → (before : List K) (o : Option K)
@@ -39,9 +59,9 @@ node_aside : (g : Game) (before : List (Listed Node)) (n : Node)
     → node_after (unnamed_game g) (map (map_entry unnamed_node) before) (unnamed_node n)
     ≡ node_by Aside (node_after g before n)
 node_aside g before n =
-    let set = use_aside same_set (set_by Aside) (set_at g) (set_at (unnamed_game g))
+    let set = use_aside same_set unnamed_set (set_at g) (set_at (unnamed_game g))
     (unnamed_set_at g) (filter_map (λ (e : Listed Node). e.node.set) before) n.set in
-    let outcome = use_aside nat_eq (outcome_by Aside) (outcome_at g) (outcome_at (unnamed_game g))
+    let outcome = use_aside nat_eq unnamed_outcome (outcome_at g) (outcome_at (unnamed_game g))
     (unnamed_outcome_at g) (filter_map (λ (e : Listed Node). e.node.outcome) before) n.outcome in
     rw (keys_still (λ n. n.set) (λ n. refl) before, keys_still (λ n. n.outcome) (λ n. refl) before)
     (λ i. record { name = []; set = set i; outcome = outcome i })
@@ -74,33 +94,15 @@ numbers_aside g = λ i. record {
   outcome = λ number. first_use_number nat_eq (unnamed_outcomes g i) number;
 }
 
-renumbered_aside : (r : Renumbering) (g : Game)
-    → renumbered r (unnamed_game g) ≡ unnamed_game (renumbered r g)
-renumbered_aside r g =
-    let tree = map_tree_twice (renumbered_node r) unnamed_node g.tree
-    ∙ sym (map_tree_twice unnamed_node (renumbered_node r) g.tree) in
-    let sets = map_twice _ _ g.sets ∙ sym (map_twice _ _ g.sets) in
-    let outcomes = map_twice _ _ g.outcomes ∙ sym (map_twice _ _ g.outcomes) in
-    λ i. record {
-      title = [];
-      comment = [];
-      players = g.players;
-      tree = tree i;
-      sets = sets i;
-      outcomes = outcomes i;
-    }
-
 -- ---- the canonical game
 
 pub nodes_by : (names : Names) (g : Game)
     → file_nodes (canonical_game (game_by names g))
     ≡ map (node_by names) (file_nodes (canonical_game g))
-nodes_by Kept g =
-    let nodes = file_nodes (canonical_game g) in
-    sym ((λ i. map (λ n. node_kept n i) nodes) ∙ map-id nodes)
+nodes_by Kept g = sym (map-id (file_nodes (canonical_game g)))
 nodes_by Aside g =
     ap (λ r. file_nodes (renumbered r (unnamed_game g))) (numbers_aside g)
-    ∙ ap file_nodes (renumbered_aside (first_use_numbers g) g)
+    ∙ ap file_nodes (unnamed_renumbered (first_use_numbers g) g)
     ∙ file_nodes_aside (canonical_game g)
 
 pub heading_is : (names : Names) (g : Game)

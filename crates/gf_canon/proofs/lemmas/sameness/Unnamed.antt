@@ -2,7 +2,7 @@
 -- from names.
 use Rattle.gf_canon.proofs.Common
 use Common.{renumbered_node, unnamed_outcome, InformationSet, AllByRecursion, description_at, arith}
-use Common.{renumbered_set, map_tree_twice, canonical_text, SameAsideNames, used_outcomes, same_set}
+use Common.{map_tree_twice, canonical_text, SameAsideNames, used_outcomes, same_set}
 use Common.{IsRenumbering, unnamed_table, unnamed_node, unnamed_game, MatchOption, cons_option, ◌≡◌}
 use Common.{HasChildren, IsSpellable, Renumbering, flatten_map, unnamed_set, option_map, filter_map}
 use Common.{outcome_at, renumbered, SpellsFile, all_images, all_weaker, Described, used_sets, subst}
@@ -10,10 +10,10 @@ use Common.{map_entry, map_twice, extensive, strategic, GameFile, SameFile, IsLa
 use Common.{Carries, unnamed, length, Option, nat_eq, Listed, SetKey, IsGame, set_at, Bool, List, ℕ}
 use Common.{Some, refl, Node, Game, ◌∷◌, map, sym, ◌∙◌, ◌↔◌, [], ap}
 use Rattle.gf_nfg.specs.SameTable.{SamePlay}
-use Rattle.gf_nfg.proofs.lemmas.texts.OneTable.{text_reads_back as table_reads_back}
-use Rattle.gf_nfg.proofs.lemmas.tables.Spelled.{spelled_is_spellable as spelled_table}
+use Rattle.gf_nfg.proofs.Offered.{text_reads_back as table_reads_back}
+use Rattle.gf_nfg.proofs.Offered.{spelled_is_spellable as spelled_table}
 use Rattle.gf_tree.specs.Description.{Outcome}
-use Rattle.gf_tree.proofs.lemmas.games.Spelled.{spelled_is_spellable as spelled_game}
+use Rattle.gf_tree.proofs.Offered.{spelled_is_spellable as spelled_game}
 use Rattle.gf_canon.proofs.lemmas.texts.ReadsBack.{text_reads_back}
 use Rattle.gf_canon.proofs.lemmas.files.Texts.{equal_canonical_texts, file_text}
 
@@ -103,22 +103,13 @@ renumbering_still g r h =
     let sets = unnamed_sets g in let outcomes = unnamed_outcomes g in grind arith
 
 -- names and numbers can be changed in either order
-unnamed_renumbered : (r : Renumbering) (g : Game)
+pub unnamed_renumbered : (r : Renumbering) (g : Game)
     → renumbered r (unnamed_game g) ≡ unnamed_game (renumbered r g)
 unnamed_renumbered r g =
-    let set : Described SetKey InformationSet → Described SetKey InformationSet =
-    λ s. record { key = s.key; description = unnamed_set s.description } in
-    let new_set : Described SetKey InformationSet → Described SetKey InformationSet =
-    λ s. record { key = renumbered_set r s.key; description = s.description } in
-    let outcome : Described ℕ Outcome → Described ℕ Outcome =
-    λ o. record { key = o.key; description = unnamed_outcome o.description } in
-    let new_outcome : Described ℕ Outcome → Described ℕ Outcome =
-    λ o. record { key = r.outcome o.key; description = o.description } in
     let tree = map_tree_twice (renumbered_node r) unnamed_node g.tree
     ∙ sym (map_tree_twice unnamed_node (renumbered_node r) g.tree) in
-    let sets = map_twice new_set set g.sets ∙ sym (map_twice set new_set g.sets) in
-    let outcomes =
-    map_twice new_outcome outcome g.outcomes ∙ sym (map_twice outcome new_outcome g.outcomes) in
+    let sets = map_twice _ _ g.sets ∙ sym (map_twice _ _ g.sets) in
+    let outcomes = map_twice _ _ g.outcomes ∙ sym (map_twice _ _ g.outcomes) in
     λ i. record {
       title = [];
       comment = [];

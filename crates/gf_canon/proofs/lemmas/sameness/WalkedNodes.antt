@@ -8,7 +8,7 @@ use Rattle.gf_canon.specs.inner.ComparedTrees.{AgreesWith}
 use Rattle.gf_canon.proofs.lemmas.files.Texts.{equal_game_texts}
 use Rattle.gf_canon.proofs.lemmas.sameness.NodesNamed.{heading_is, nodes_by}
 use Rattle.gf_canon.proofs.lemmas.texts.Spellables.{canonical_is_spellable}
-use Rattle.gf_canon.proofs.lemmas.texts.TextPieces.{game_text_is, node_lines}
+use Rattle.gf_canon.proofs.lemmas.texts.Fields.{game_text_is, node_lines}
 use Rattle.gf_canon.proofs.lemmas.sameness.Unnamed.{unnamed_is_game, unnamed_is_spellable}
 
 -- ---- games by their nodes
@@ -36,8 +36,7 @@ module _ (names : Names) (g h : Game) (left : IsHeld g) (right : IsHeld h) where
       let heading = heading_is names g ∙ alike.heading ∙ sym (heading_is names h) in
       let nodes = nodes_by names g ∙ alike.nodes ∙ sym (nodes_by names h) in
       game_text_is (canonical_game (game_by names g))
-      ∙ (λ i. heading_text (heading i).title (heading i).comment (heading i).players
-      ++ node_lines (nodes i))
+      ∙ (λ i. heading_text (heading i) ++ node_lines (nodes i))
       ∙ sym (game_text_is (canonical_game (game_by names h)))
 
   pub same_by_nodes : AreAlike ↔ SameGame (game_by names g) (game_by names h)

@@ -5,8 +5,7 @@ use Rattle.gf_canon.proofs.Common.{same_by_canonical}
 use Rattle.gf_fraction.specs.NumberText.{number_text}
 use Rattle.std.specs.Fmt.{digits}
 use Rattle.gf_tree.specs.WorkedTrees.{five, five_file, bonus}
-use Rattle.gf_tree.proofs.lemmas.games.Spelled.{spelled_is_spellable}
-use Rattle.gf_tree.proofs.lemmas.games.Worked.{five_is_meant}
+use Rattle.gf_tree.proofs.Offered.{spelled_is_spellable, five_is_meant}
 use Rattle.gf_canon.specs.WorkedGames.{numbered_five, five_text, bonus_text, nobody, nobody_text}
 
 pub five_numbered : five ≡ numbered_five 9 7 3 4

@@ -12,10 +12,8 @@ use Rattle.std.proofs.lemmas.List.Folds.{list_any-append}
 use Rattle.std.proofs.lemmas.List.Elements.{filter_map-append}
 use Rattle.gf_tree.specs.Tree.{map_tree}
 use Rattle.gf_tree.specs.Learned.{Learns}
-use Rattle.gf_tree.proofs.lemmas.games.Prefix.{flatten_once, one_tree, fills_one}
-use Rattle.gf_tree.proofs.lemmas.games.Learning.{learned_once}
-use Rattle.gf_tree.proofs.lemmas.games.Lookups.{entry_at}
-use Rattle.gf_tree.proofs.lemmas.games.Learned.{game_learned_once}
+use Rattle.gf_tree.proofs.Offered.{flatten_once, one_tree, fills_one, learned_once, entry_at}
+use Rattle.gf_tree.proofs.Offered.{game_learned_once}
 use Rattle.gf_canon.specs.FirstDescribed.{DescribeFirstUses, IsFileOf}
 
 -- ---- uses

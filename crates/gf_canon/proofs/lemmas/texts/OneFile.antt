@@ -7,9 +7,7 @@ use Common.{use_after, Described, Describes, used_sets, map_entry, has_place, li
 use Common.{FileNode, FileTree, set_uses, contains, flatten, Option, nat_eq, Listed, arith, subst}
 use Common.{Bool, List, ◌++◌, Some, None, refl, Game, ◌≡◌, ◌∷◌, map, sym, ◌∙◌, Use, Has, ap}
 use Common.{IsConsistent, IsGameOf, IsGame, ◌↔◌}
-use Rattle.gf_tree.proofs.lemmas.games.Consistent.{is_game}
-use Rattle.gf_tree.proofs.lemmas.games.Learned.{told_found}
-use Rattle.gf_tree.proofs.lemmas.games.Prefix.{flatten_once}
+use Rattle.gf_tree.proofs.Offered.{is_game, told_found, flatten_once}
 use Rattle.gf_canon.specs.FirstDescribed.{DescribeFirstUses, IsFileOf}
 use Rattle.gf_canon.proofs.lemmas.texts.FileOf.{file_of_game, first_is_new, none_of_them}
 use Rattle.gf_canon.proofs.lemmas.texts.FileOf.{uses_after}

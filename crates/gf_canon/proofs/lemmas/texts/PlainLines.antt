@@ -1,4 +1,4 @@
--- The line of a node that describes nothing, piece by piece.
+-- The line of a node that describes nothing, part by part.
 use Rattle.gf_canon.proofs.Common
 use Common.{described_fields, InformationSet, length-append, player_letter, append_assoc, node_line}
 use Common.{mover_fields, mover_letter, length-drop, number_then, player_then, set_use_of, drop-set}

@@ -10,14 +10,13 @@ use Common.{◌≡◌, ◌∷◌, ◌↔◌, map, sym, inl, inr, Has, IsOutcome,
 use Common.{arith}
 use Rattle.std.specs.Fmt.{digits}
 use Rattle.gf_token.specs.Grammar.{Each}
-use Rattle.gf_token.proofs.LaidOut.{AreSaid, Says, both, empty, fields, label, labels, line}
-use Rattle.gf_token.proofs.LaidOut.{lines, list, word}
-use Rattle.gf_token.proofs.SpelledNumbers.{decimal_is_index}
+use Rattle.gf_token.proofs.Offered.{AreSaid, Says, both, empty, fields, label, labels, line, lines}
+use Rattle.gf_token.proofs.Offered.{list, word, decimal_is_index}
 use Rattle.gf_tree.specs.Sentence.{IsInformationSet, IsNode, IsOutcomeDescription, IsResult, IsStep}
-use Rattle.gf_tree.proofs.lemmas.games.Spelled.{spelled_is_spellable}
+use Rattle.gf_tree.proofs.Offered.{spelled_is_spellable}
 use Rattle.gf_canon.proofs.lemmas.texts.FileOf.{entries_after, file_of_game, file_nodes_are}
-use Rattle.gf_canon.proofs.lemmas.texts.Pieces.{Say, say_described, say_each_field}
-use Rattle.gf_canon.proofs.lemmas.texts.Pieces.{say_mover, say_outcome, say_set}
+use Rattle.gf_canon.proofs.lemmas.texts.SaidFields.{Say, say_described, say_each_field}
+use Rattle.gf_canon.proofs.lemmas.texts.SaidFields.{say_mover, say_outcome, say_set}
 
 -- ---- each node
 

@@ -12,8 +12,7 @@ use Common.{◌<◌, eqb, ◌∷◌, map, sym, ◌∙◌, inl, inr, Has, [], ℕ
 use Rattle.std.specs.List.{IsDistinct}
 use Rattle.std.proofs.lemmas.Map.Steps.{length-le_from_distinct_below}
 use Rattle.gf_tree.specs.Description.{Outcome}
-use Rattle.gf_tree.proofs.lemmas.games.FirstUseNumbers.{AreApart, number_at_most}
-use Rattle.gf_tree.proofs.lemmas.games.Renumbered.{own_set}
+use Rattle.gf_tree.proofs.Offered.{AreApart, number_at_most, own_set}
 
 -- ---- different numbers from 1 below a bound are fewer than it
 

@@ -1,16 +1,24 @@
--- Forms of a game: there is at most one, one exists if there are payoffs at each profile, and each
--- is a table.
+-- What makes a table a form of a game: its labels, and rows of payoffs that are right at its
+-- profiles.
 use Rattle.gf_form.proofs.Common
-use Common.{length-numbers_from, IsStrategicForm, strategy_labels, AllByRecursion, PaysFractions, ℕ}
-use Common.{full_profiles, strategies_at, one_fraction, ArePayoffsAt, mapped_from, IfOk-weaker, ◌≡◌}
-use Common.{all_of_each, AllZip-long, length-map, IsFraction, IsFormWith, choices_by, players_of}
-use Common.{all_images, map_twice, profiles, contains, Contains, IsEqual, IsTable, has_map, length}
-use Common.{AllZip, SetKey, payoff, IsGame, arith, Ratio, Table, List, refl, Game, each, drop, ◌∷◌}
-use Common.{map, sym, inl, inr, ◌↔◌, Has, has, ◌<◌, ◌∙◌, [], ap}
-use Rattle.gf_nfg.specs.Table.{Entry}
+use Common.{length-numbers_from, slice_get-get_or, take-append_seam, IsStrategicForm, PaysFractions}
+use Common.{flat_map-append, length-profiles, strategy_labels, AllByRecursion, IsFirstWithout, Game}
+use Common.{full_profiles, length-append, profile_limit, strategies_at, ArePayoffsAt, one_fraction}
+use Common.{AllZip-long, IfOk-weaker, all_of_each, at_position, mapped_from, ArePayoffs, IsFormWith}
+use Common.{IsFraction, all_images, append-nil, choices_by, length-map, players_of, AreRowsAt, List}
+use Common.{IsTableOf, map_twice, slice_get, Contains, all_both, contains, flat_map, profiles, Some}
+use Common.{take-suc, IsEqual, IsTable, add-one, has_map, product, AllZip, IsGame, SetKey, get_or}
+use Common.{length, payoff, Ratio, Table, arith, subst, drop, each, refl, take, zero, ◌++◌, Has, []}
+use Common.{has, inl, inr, map, suc, sym, ◌*◌, ◌+◌, ◌-◌, ◌<◌, ◌↔◌, ◌∙◌, ◌∷◌, ◌≡◌, ◌≤◌, ap, ℕ}
+use Rattle.gf_nfg.specs.Table.{Entry, rows}
 use Rattle.gf_form.specs.StrategicForm.{PaysFraction}
-use Rattle.gf_form.proofs.lemmas.strategies.CountedActions.{some_strategy}
-use Rattle.gf_form.proofs.lemmas.strategies.Lookups.{all_mapped}
+use Rattle.gf_form.proofs.lemmas.strategies.CountedActions.{some_strategy, as_many_players}
+use Rattle.gf_form.proofs.lemmas.strategies.Lookups.{all_mapped, all_right}
+use Rattle.gf_form.specs.inner.rows.FitsTable.{FitsTable}
+use Rattle.std.proofs.Math.Nat.{suc-mul}
+use Rattle.std.proofs.lemmas.List.{append_cancel_left, take_more}
+use Rattle.std.proofs.lemmas.Slice.Zip.{all_zipped_more}
+use Rattle.gf_fraction.proofs.Offered.{all_joined}
 
 pub as_many : {A B : Type 0} (R : A → B → Type 0) (xs : List A) (ys : List B) → AllZip R xs ys
     → length xs ≡ length ys
@@ -142,3 +150,140 @@ form_is_table g t game =
 
 -- what is passed on to the table
 pub ruleset table_steps = (length-map, IfOk-weaker)
+
+-- ---- rows of payoffs at profiles in turn, and the table that they make
+
+zip_of_one : {A B C : Type 0} (R : A → B → Type 0) (f : C → A) (g : C → B) (zs : List C)
+    → AllZip R (map f zs) (map g zs) → AllByRecursion (λ z. R (f z) (g z)) zs
+zip_of_one R f g [] h = tt
+zip_of_one R f g (z ∷ zs) h = (h.0, zip_of_one R f g zs h.1)
+
+-- rows of one length are known by what they make together
+same_rows : {A : Type 0} (n : ℕ) (xs ys : List (List A)) → AllByRecursion (λ row. length row ≡ n) xs
+    → AllByRecursion (λ row. length row ≡ n) ys → length xs ≡ length ys
+    → flat_map (λ row. row) xs ≡ flat_map (λ row. row) ys → xs ≡ ys
+same_rows n [] [] h k counted same = refl
+same_rows n [] (y ∷ ys) h k counted same = absurd (omega (arith, counted))
+same_rows n (x ∷ xs) [] h k counted same = absurd (omega (arith, counted))
+same_rows n (x ∷ xs) (y ∷ ys) h k counted same =
+    let others = λ (rows : List (List _)). flat_map (λ row. row) rows in
+    let first : x ≡ y = cc (take-append_seam x (others xs), take-append_seam y (others ys)) in
+    let rest : others xs ≡ others ys = grind (arith, append_cancel_left, first) in
+    λ i. first i ∷ same_rows n xs ys h.1 k.1 (omega (arith, counted)) rest i
+
+pub all_more : {A : Type 0} (P : A → Type 0) (xs : List A) (i : ℕ) (d : A) → i < length xs
+    → AllByRecursion P (take i xs) → P (get_or xs i d) → AllByRecursion P (take (i + 1) xs)
+all_more P xs i d less h k =
+    rw (take_more xs i d less) (all_both P (take i xs) (get_or xs i d ∷ []) h (k, tt))
+
+before_it : {A : Type 0} (P : A → Type 0) (xs : List A) (i k : ℕ) (x : A)
+    → AllByRecursion P (take i xs) → k < i → slice_get xs k ≡ Some x → P x
+before_it P (y ∷ ys) (suc i) (suc k) x h less is =
+    before_it P ys i k x h.1 (omega (arith, less)) is
+before_it P xs i k x h less is = grind arith
+
+-- all before it hold, and it does not
+pub first_without : (Holds : List ℕ → Type 0) (ps : List (List ℕ)) (i : ℕ) → i < length ps
+    → AllByRecursion Holds (take i ps) → ¬ (Holds (get_or ps i []))
+    → IsFirstWithout Holds ps (i + 1)
+first_without Holds ps i less before fails = record {
+  profile = get_or ps i [];
+  there = ap (at_position ps) (add-one i) ∙ slice_get-get_or ps i [] less;
+  overflows = fails;
+  first = first;
+}
+  where
+    first : (earlier : ℕ) (other : List ℕ) → earlier < i + 1
+        → at_position ps earlier ≡ Some other → Holds other
+    first zero other h is = absurd cc
+    first (suc k) other h is = before_it Holds ps i k other before (omega (arith, h)) is
+
+module _ (R : List ℕ → List Ratio → Type 0) where
+  pub one_row_more : (ps : List (List ℕ)) (i : ℕ) (payoffs next row : List Ratio) → i < length ps
+      → AreRowsAt R (take i ps) payoffs → R (get_or ps i []) row → next ≡ payoffs ++ row
+      → AreRowsAt R (take (i + 1) ps) next
+  one_row_more ps i payoffs next row less h right next_is =
+      let all = λ (rows : List (List Ratio)). flat_map (λ row. row) rows in record {
+        rows = h.rows ++ row ∷ [];
+        joined = grind (arith, append-nil, flat_map-append);
+        right = grind (arith, take-suc, add-one, all_zipped_more);
+      }
+
+  counted : (n : ℕ) (rows : List (List Ratio)) → AllByRecursion (λ row. length row ≡ n) rows
+      → length (flat_map (λ row. row) rows) ≡ length rows * n
+  counted n [] h = omega arith
+  counted n (row ∷ rows) h = grind (arith, length-append, suc-mul, counted n rows h.1)
+
+  -- if each row has this many
+  pub rows_counted : (n : ℕ) → ((p : List ℕ) (row : List Ratio) → R p row → length row ≡ n)
+      → (ps : List (List ℕ)) (payoffs : List Ratio) → AreRowsAt R ps payoffs
+      → length payoffs ≡ length ps * n
+  rows_counted n each ps payoffs h = grind (arith, counted, all_right, as_many)
+
+  -- if all items of each row are fractions
+  pub rows_fractions : ((p : List ℕ) (row : List Ratio) → R p row → AllByRecursion IsFraction row)
+      → (ps : List (List ℕ)) (payoffs : List Ratio) → AreRowsAt R ps payoffs
+      → AllByRecursion IsFraction payoffs
+  rows_fractions each ps payoffs h = grind (arith, all_joined, all_right)
+
+  -- the table of rows that are right is a form
+  pub form_by_rows : (labels : ℕ → List (List ℕ)) (g : Game) (t : Table) (payoffs : List Ratio)
+      → ((p : List ℕ) (row : List Ratio) → R p row → length row ≡ length g.players)
+      → IsTableOf t g.title g.comment g.players (map labels (players_of g)) payoffs
+      → AreRowsAt R (form_profiles labels g) payoffs → IsFormWith labels R g t
+  form_by_rows labels g t payoffs each made h =
+      let n = length g.players in
+      let ps = form_profiles labels g in
+      let as_rows : length (rows t) ≡ length h.rows = grind (arith, length-map, as_many) in
+      let same : rows t ≡ h.rows =
+      same_rows n (rows t) h.rows
+      (subst (λ (players : List (List ℕ)). AllByRecursion (λ row. length row ≡ length players)
+      (rows t)) made.players_are made.is_table.one_payoff_each)
+      (all_right R (λ row. length row ≡ n) each ps h.rows h.right) as_rows
+      (made.payoffs_are ∙ h.joined) in
+      grind (arith, zip_of_one)
+
+-- ---- rows of payoffs
+
+all_first : {A B : Type 0} (P : A → Type 0) (Q : A → B → Type 0) (xs : List A) (ys : List B)
+    → AllZip (λ x y. P x × Q x y) xs ys → AllByRecursion P xs
+all_first P Q (x ∷ xs) (y ∷ ys) h = (h.0.0, all_first P Q xs ys h.1)
+all_first P Q xs ys h = grind arith
+
+module _ (g : Game) (choices : SetKey → ℕ) (row : List Ratio)
+    (paid : ArePayoffs g choices row) where
+  full_row : length row ≡ length g.players
+  full_row = grind (arith, as_many, length-numbers_from)
+
+  row_fractions : AllByRecursion IsFraction row
+  row_fractions = all_first IsFraction _ row (players_of g) paid
+
+-- ---- labels and rows of a form
+
+module _ (labels : ℕ → List (List ℕ)) (R : List ℕ → List Ratio → Type 0) (g : Game)
+    (all : List (List (List ℕ))) (payoffs : List Ratio) (ps : List (List ℕ))
+    (same : form_profiles labels g ≡ ps) (named : all ≡ map labels (players_of g))
+    (paid : (p : List ℕ) (row : List Ratio) → R p row → (choices : SetKey → ℕ)
+    × ArePayoffs g choices row)
+    (right : AreRowsAt R ps payoffs) where
+  each_full : (p : List ℕ) (row : List Ratio) → R p row → length row ≡ length g.players
+  each_full p row h = let by = paid p row h in full_row g by.0 row by.1
+
+  profiles_counted : product (map length all) ≡ length ps
+  profiles_counted = cc (named, same, length-profiles (map length (map labels (players_of g))))
+
+  pub fits_table : ((player : ℕ) → 0 < length (labels player)) → length ps ≤ profile_limit
+      → FitsTable (length g.players) all payoffs
+  fits_table some few = record {
+    one_list_each = ap length named ∙ as_many_players g labels;
+    some_strategy = grind (arith, all_mapped (λ own. 0 < length own) labels (players_of g) some);
+    profiles = omega (arith, profiles_counted, few);
+    fractions = rows_fractions R (λ p row h. let by = paid p row h in row_fractions g by.0 row by.1)
+        ps payoffs right;
+    rows = rows_counted R (length g.players) each_full ps payoffs right
+        ∙ ap (λ (n : ℕ). n * length g.players) (sym profiles_counted);
+  }
+
+  pub form_made : (t : Table) → IsTableOf t g.title g.comment g.players all payoffs
+      → IsFormWith labels R g t
+  form_made t made = form_by_rows R labels g t payoffs each_full (rw (← named) made) (rw same right)

@@ -1,26 +1,38 @@
 -- Games that are the same have the same payoffs, bottom-up values and forms, by pure and by reduced
--- strategies, and none for the same reason.
+-- strategies, and none for the same reason. The worked forms.
 use Rattle.gf_form.proofs.Common
-use Common.{carried_is_renumbered, AreReducedPayoffsAt, reduced_strategies, ReducedOverflowsAt, ◌≡◌}
-use Common.{same_set_equality, HasReducedValues, IsStrategicForm, strategy_labels, renumbered_node}
-use Common.{InformationSet, renumbered_set, strategy_label, IsFirstWithout, AllByRecursion, IsEqual}
-use Common.{reduced_labels, if◌then◌else◌, IsRenumbering, filter_of_map, strategies_at, is_relevant}
-use Common.{full_profiles, IsReducedForm, reduced_label, ArePayoffsAt, same_choice, Renumbering, []}
-use Common.{player_sets, player_keys, all_of_each, IsFraction, renumbered, same_tests, sets_apart}
-use Common.{strategies, players_of, choices_by, IsFormWith, first_uses, reduced_at, reduced_by, ◌∷◌}
-use Common.{HasValues, pointwise, Described, used_sets, map_twice, choice_at, positions, same_set}
-use Common.{SameGame, map_same, profiles, Contains, list_any, comes_to, flatten, IsValue, reduced}
-use Common.{SetKey, IsGame, payoff, length, AllZip, plays, arith, Ratio, subst, Table, List, Some}
-use Common.{refl, Node, Game, held, Bool, None, ◌||◌, Step, map, inl, inr, ◌↔◌, Has, ◌∙◌, zip, ap}
-use Common.{ℕ}
+use Common.{carried_is_renumbered, AreReducedPayoffsAt, ReducedOverflowsAt, lowest_of-fraction, Has}
+use Common.{reduced_strategies, same_set_equality, HasReducedValues, IsStrategicForm, IsReducedForm}
+use Common.{renumbered_node, strategy_labels, AllByRecursion, InformationSet, IsFirstWithout, Ratio}
+use Common.{reduced_labels, renumbered_set, strategy_label, whole_fraction, IsRenumbering, Contains}
+use Common.{filter_of_map, full_profiles, if◌then◌else◌, reduced_label, strategies_at, ArePayoffsAt}
+use Common.{contradicted, IsSpellable, Renumbering, all_of_each, is_relevant, overflowing, IsPaidAt}
+use Common.{player_keys, player_sets, same_choice, IsFormWith, IsFraction, choices_by, first_uses}
+use Common.{players_of, reduced_at, reduced_by, renumbered, same_tests, sets_apart, strategies, inl}
+use Common.{Described, HasValues, balancing, choice_at, map_twice, pointwise, positions, used_sets}
+use Common.{SameGame, comes_to, list_any, map_same, profiles, same_set, unlikely, IsEqual, IsValue}
+use Common.{flatten, reduced, AllZip, IsGame, SetKey, ending, get_or, length, nat_lt, payoff, Table}
+use Common.{arith, codes, plays, subst, whole, Bool, Game, List, Node, None, Some, Step, held, refl}
+use Common.{true, ◌*ℤ◌, ◌++◌, ◌||◌, inr, map, pos, zip, ◌+◌, ◌<◌, ◌↔◌, ◌∙◌, ◌∷◌, ◌≡◌, [], ap, ℕ}
 use Rattle.std.proofs.Math.Path.{subst₂, transport, transport⁻¹}
 use Rattle.gf_tree.specs.PrefixOrder.{Listed}
-use Rattle.gf_tree.proofs.lemmas.games.Carried.{entry_used}
-use Rattle.gf_tree.proofs.lemmas.games.Renumbered.{set_at_image, outcome_at_image}
-use Rattle.gf_form.proofs.lemmas.values.Alike.{IsAlike, AreAlike, same_payoff, value_alike, OnPlay}
-use Rattle.gf_form.proofs.lemmas.values.Alike.{OnSteps, carried_step, on_plays, plays_carried}
+use Rattle.gf_tree.proofs.Offered.{entry_used, set_at_image, outcome_at_image, spelled_is_spellable}
+use Rattle.gf_tree.proofs.Offered.{game_read, meant, ok_game}
+use Rattle.gf_form.proofs.lemmas.values.Plays.{IsAlike, AreAlike, same_payoff, value_alike, OnPlay}
+use Rattle.gf_form.proofs.lemmas.values.Plays.{OnSteps, carried_step, on_plays, plays_carried}
 use Rattle.gf_form.proofs.lemmas.strategies.Lookups.{own_set}
 use Rattle.gf_form.specs.Refusal.{OverflowsAt}
+use Rattle.std.specs.Fmt.{digits}
+use Rattle.gf_fraction.specs.Offered.{gcd_within, lowest_of, number_of, sum_of, product_of}
+use Rattle.gf_token.specs.Offered.{index_of, lex, Gap}
+use Rattle.gf_tree.specs.Offered.{nothing, run, Format}
+use Rattle.gf_fraction.proofs.Offered.{part_fraction}
+use Rattle.gf_tree.specs.WorkedTrees.{bonus}
+use Rattle.gf_form.specs.WorkedForms.{bonus_form, second, only, ending_form, ending_reduced}
+use Rattle.gf_form.proofs.lemmas.reduced.FirstStrategies.{reduced_made}
+use Rattle.gf_form.proofs.lemmas.values.ValuesComputed.{none_computed}
+
+-- ---- what is the same
 
 any_carried : {X Y : Type 0} (f : X → Y) (p : Y → Bool) (q : X → Bool) (P : X → Type 0)
     → ((x : X) → P x → p (f x) ≡ q x) → (xs : List X) → AllByRecursion P xs
@@ -276,3 +288,96 @@ pub ruleset same_by_reduced = (
   reduced_by_carried,
   same_reduced_overflow,
 )
+
+-- ---- worked games, which files can hold
+
+abbrev IsHeld : Game → Type 0
+IsHeld g = IsGame g × IsSpellable g
+
+held_by : (g : Game) (bytes : List ℕ)
+    → game_read (run (length bytes) Format nothing (lex Gap 0 bytes)) ≡ ok_game g → IsHeld g
+held_by g bytes e = spelled_is_spellable bytes g (meant bytes g e)
+
+pub worked_games : AllByRecursion IsHeld
+    (overflowing ∷ unlikely ∷ balancing ∷ ending ∷ contradicted ∷ [])
+unfolding lex digits index_of number_of sum_of lowest_of gcd_within
+worked_games =
+    let o = held_by overflowing (codes "EFG 2 R \"o\" { \"A\" } p \"\" 1 1 \"i\" { \"a\" \"b\" } 1 "
+    ++ codes "\"x\" { -1 } t \"\" 0 p \"\" 1 2 \"j\" { \"c\" } "
+    ++ codes "2 \"y\" { 170141183460469231731687303715884105727 } t \"\" 3 \"z\" { 1 }") refl in
+    let u = held_by unlikely (codes "EFG 2 R \"q\" { \"A\" } c \"\" 1 \"n\" { \"a\" 1 \"b\" 0 } 0 "
+    ++ codes "t \"\" 1 \"x\" { 1 } c \"\" 2 \"k\" { \"e\" 1 } "
+    ++ codes "2 \"y\" { 170141183460469231731687303715884105727 } t \"\" 1") refl in
+    let b = held_by balancing (codes "EFG 2 R \"b\" { \"A\" } c \"\" 1 \"n\" { \"h\" 1/2 \"t\" 1/2 } "
+    ++ codes "1 \"x\" { -85070591730234615865843651857942052863 } "
+    ++ codes "t \"\" 2 \"y\" { 170141183460469231731687303715884105727 } "
+    ++ codes "t \"\" 3 \"z\" { 170141183460469231731687303715884105725 }") refl in
+    let e = held_by ending (codes "EFG 2 R \"r\" { \"A\" } p \"\" 1 1 \"i\" { \"a\" \"b\" } 0 "
+    ++ codes "t \"\" 1 \"x\" { 1 } p \"\" 1 2 \"j\" { \"c\" \"d\" } 0 "
+    ++ codes "t \"\" 2 \"y\" { 2 } t \"\" 3 \"z\" { 3 }") refl in
+    let c = held_by contradicted (codes "EFG 2 R \"\" { \"A\" } p \"\" 1 1 \"\" { \"\" \"\" } 0 "
+    ++ codes "p \"\" 1 1 0 t \"\" 0 p \"\" 1 2 \"\" { \"\" \"\" } 0 "
+    ++ codes "t \"\" 0 t \"\" 0 t \"\" 0") refl in
+    (o, (u, (b, (e, (c, tt)))))
+
+-- ---- fractions
+
+small : (n : ℕ) → n < 4 → IsFraction (whole (pos n))
+small n h = whole_fraction n (omega arith)
+
+pub equal : (x y : Ratio) → nat_lt 0 x.den ≡ true → nat_lt 0 y.den ≡ true
+    → x.num *ℤ pos y.den ≡ y.num *ℤ pos x.den → IsEqual x y
+equal x y left right crosswise = grind arith
+
+three_halves : IsFraction (record { num = pos 3; den = 2 })
+unfolding lowest_of gcd_within
+three_halves = lowest_of-fraction (pos 3) 2 (omega arith) (omega arith) (omega arith)
+
+pub form_of_bonus : IsStrategicForm bonus bonus_form
+unfolding digits
+form_of_bonus = grind (arith, three_halves, equal, small, part_fraction)
+
+-- ---- payoffs without a bottom-up value
+
+abbrev HasNone : Game → List (List ℕ) → Type 0
+HasNone g all = ¬ ((value : Ratio) × IsValue g (choices_by g all) 1 g.tree value)
+
+pub no_values : HasNone overflowing second × HasNone unlikely only × HasNone balancing only
+unfolding sum_of product_of lowest_of gcd_within
+no_values = (
+  none_computed overflowing worked_games.0.1 (choices_by overflowing second) 1
+      overflowing.tree refl,
+  none_computed unlikely worked_games.1.0.1 (choices_by unlikely only) 1 unlikely.tree refl,
+  none_computed balancing worked_games.1.1.0.1 (choices_by balancing only) 1 balancing.tree refl,
+)
+
+-- ---- the action that ends the play
+
+pub form_of_ending : IsStrategicForm ending ending_form
+unfolding digits
+form_of_ending = grind (arith, equal, small)
+
+-- the payoff at the full profile with this number is that of a reduced strategy
+paid_at : (n strategy paid : ℕ) → paid < 4 → n < 4
+    → get_or (full_profiles ending) n ((n + 1) ∷ []) ≡ (n + 1) ∷ []
+    → reduced_by ending ((n + 1) ∷ []) ≡ reduced_at ending (strategy ∷ [])
+    → IsEqual (whole (pos paid))
+    (payoff ending (choices_by ending (strategies_at ending ((n + 1) ∷ []))) 1)
+    → IsPaidAt ending (strategy ∷ []) (whole (pos paid) ∷ [])
+paid_at n strategy paid few less there reduces is = record {
+  full = (n + 1) ∷ [];
+  there = (n, less, there);
+  reduces = reduces;
+  paid = ((small paid few, is), tt);
+}
+
+pub reduced_of_ending : IsReducedForm ending ending_reduced
+unfolding digits
+reduced_of_ending =
+    let first = paid_at 0 1 1 (omega arith) (omega arith) refl refl (equal _ _ refl refl refl) in
+    let second = paid_at 2 2 2 (omega arith) (omega arith) refl refl (equal _ _ refl refl refl) in
+    let third = paid_at 3 3 3 (omega arith) (omega arith) refl refl (equal _ _ refl refl refl) in
+    reduced_made ending ending_reduced (grind (arith, first, second, third))
+
+pub ruleset worked_forms =
+    (worked_games, form_of_bonus, no_values, equal, form_of_ending, reduced_of_ending)

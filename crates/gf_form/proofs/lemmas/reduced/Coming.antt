@@ -2,20 +2,20 @@
 -- player with one strategy, who has one action at each. And strategies that agree with the same
 -- plays reduce to the same one.
 use Rattle.gf_form.proofs.Common
-use Common.{same_set_equality, sets_by_first_use, list_any-append, reduced_labels, strategy_label}
-use Common.{AllByRecursion, InformationSet, option_map_or, is_own_choice, reduced_label, plays_from}
-use Common.{relevant_sets, action_counts, dvd-mul_right, if◌then◌else◌, visit_handing, AreFirstsOf}
-use Common.{all_choices, MatchOption, HasChildren, flatten_all, is_relevant, player_keys, choice_at}
-use Common.{IsSpellable, descent_all, mapped_from, length-map, strategies, option_map, get_or-map}
-use Common.{false≢true, HasActions, cases_Bool, all_parts, of_filter, used_sets, and_parts, has_map}
-use Common.{is_chosen, from_node, same_set, comes_to, Contains, was_used, list_any, list_all, arith}
-use Common.{and_from, eqb-true, contains, map_same, in_right, choosing, flatten, product, reduced}
-use Common.{in_left, stop_at, descent, get_or, Option, length, branch, SetKey, IsGame, set_at, Game}
-use Common.{agrees, subst, Trees, count, plays, false, Play, Bool, true, List, Some, None, refl, ap}
-use Common.{◌&&◌, Tree, none, more, Node, ◌==◌, Step, Stop, ◌≡◌, ◌+◌, ◌<◌, ◌∷◌, map, suc, ◌≤◌, sym}
-use Common.{◌∙◌, Has, ◌∣◌, inl, inr, has, ◌*◌, [], ℕ}
+use Common.{same_set_equality, sets_by_first_use, list_any-append, AllByRecursion, InformationSet}
+use Common.{reduced_labels, strategy_label, action_counts, dvd-mul_right, if◌then◌else◌, HasActions}
+use Common.{is_own_choice, option_map_or, reduced_label, relevant_sets, visit_handing, AreFirstsOf}
+use Common.{HasChildren, IsSpellable, MatchOption, all_choices, descent_all, flatten_all, all_parts}
+use Common.{is_relevant, mapped_from, player_keys, cases_Bool, false≢true, get_or-map, length-map}
+use Common.{option_map, plays_from, strategies, and_parts, choice_at, from_node, is_chosen, descent}
+use Common.{of_filter, used_sets, Contains, and_from, choosing, comes_to, contains, eqb-true, Trees}
+use Common.{in_right, list_all, list_any, map_same, same_set, was_used, flatten, has_map, in_left}
+use Common.{product, reduced, stop_at, IsGame, Option, SetKey, agrees, branch, get_or, length, Bool}
+use Common.{set_at, arith, count, false, plays, subst, Game, List, Node, None, Play, Some, Step, []}
+use Common.{Stop, Tree, more, none, refl, true, ◌&&◌, ◌==◌, Has, has, inl, inr, map, suc, sym, ◌*◌}
+use Common.{◌+◌, ◌<◌, ◌∙◌, ◌∣◌, ◌∷◌, ◌≡◌, ◌≤◌, ap, ℕ}
 use Rattle.std.proofs.Math.Bool.{and-or_distrib_left}
-use Rattle.gf_form.proofs.lemmas.rows.MetNodes.{set_there}
+use Rattle.gf_form.proofs.lemmas.rows.Descents.{set_there}
 use Rattle.gf_form.proofs.lemmas.rows.GameDigits.{among_own, said_there}
 use Rattle.gf_form.proofs.lemmas.strategies.Lookups.{own_set, set_is, there, keys_distinct}
 use Rattle.gf_form.proofs.lemmas.reduced.Reducing.{first_play, is_chance, own_right, any_has}
@@ -27,7 +27,7 @@ use Rattle.std.proofs.lemmas.List.Elements.{filter_map-append}
 use Rattle.std.proofs.lemmas.List.Folds.{Any-from_list_any}
 use Rattle.std.proofs.Math.Nat.{dvd-mul_left, eq-one_of_dvd-one}
 use Rattle.gf_form.proofs.lemmas.strategies.StrategiesByNumber.{whole_label}
-use Rattle.gf_form.proofs.lemmas.values.Following.{some_play_in, taken_child, in_either}
+use Rattle.gf_form.proofs.lemmas.values.Plays.{some_play_in, taken_child, in_either}
 
 -- the nodes of a tree that a walk meets by these choices of a player
 abbrev pub met_nodes : Game → (SetKey → ℕ) → ℕ → Tree Node → List (Stop ℕ)

@@ -8,7 +8,7 @@ use Common.{mul-le-mul_right, reduced_profiles, HasReducedValues, length-profile
 use Common.{AllByRecursion, is_relevant_at, get_or_default, length-take-le, reduced_labels, product}
 use Common.{IsFirstWithout, if◌then◌else◌, relevant_sets, action_counts, profile_limit, player_keys}
 use Common.{IsReducedForm, full_profiles, numbers_from, ArePayoffsAt, on_ok_weaker, AreDistinct, []}
-use Common.{is_relevant, same_choice, get_or-take, AllZip-long, AreFirstsOf, strategy_at, AreInTurn}
+use Common.{is_relevant, same_choice, get_or-take, AllZip-long, AreFirstsOf, strategy_at}
 use Common.{IfOk-weaker, length-take, map-append, first_uses, strategies, AreFoundTo, mul-le-mul, ℕ}
 use Common.{get_or-map, all_weaker, reduced_at, reduced_by, IsFormWith, players_of, pointwise, zero}
 use Common.{choice_at, ArePicked, IsProfile, AreRowsAt, HasValues, list_any, map_same, all_both, ap}
@@ -16,7 +16,7 @@ use Common.{numbered, AreBelow, IsPicked, Contains, profiles, IsPaidAt, reduced,
 use Common.{full_at, Global, Option, length, get_or, SetKey, IsGame, AllZip, subst, arith, shown}
 use Common.{Ratio, Table, Bool, true, List, ◌++◌, Some, None, take, refl, Game, Vec, ◌≡◌, suc, ◌+◌}
 use Common.{◌-◌, ◌*◌, ◌<◌, ◌≤◌, ◌∷◌, map, set, sym, ◌∙◌, ◌↔◌, zip}
-use Rattle.gf_tree.proofs.lemmas.stores.KnownKeys.{known_more, more_known}
+use Rattle.gf_tree.proofs.Offered.{known_more, more_known, IsEquality}
 use Rattle.gf_form.proofs.lemmas.strategies.Choices.{choice_length, at_its_place, are_choices}
 use Rattle.gf_form.proofs.lemmas.strategies.Choices.{IsChoice, place_at, place}
 use Rattle.gf_form.proofs.lemmas.strategies.Lookups.{keys_distinct, strategy_before}
@@ -25,14 +25,13 @@ use Rattle.gf_form.proofs.lemmas.reduced.ReducedForms.{choices_equality}
 use Rattle.gf_form.proofs.lemmas.reduced.Reducing.{reduced_same, same_values, same_row}
 use Rattle.std.proofs.lemmas.List.{take-map, take_more}
 use Rattle.std.proofs.lemmas.List.Folds.{Any-from_list_any, list_any_at}
-use Rattle.gf_tree.proofs.lemmas.games.Uses.{IsEquality}
 use Rattle.gf_form.proofs.lemmas.strategies.StrategiesByNumber.{all_at}
 use Rattle.gf_nfg.specs.Table.{Entry}
 use Rattle.gf_form.specs.inner.reduced.Firsts.{AreFirsts}
 use Rattle.gf_form.proofs.lemmas.strategies.CountedActions.{strategies_positive, product_positive}
 use Rattle.gf_form.proofs.lemmas.strategies.CountedActions.{strategy_counts, as_many_players}
 use Rattle.gf_form.proofs.lemmas.strategies.CountedActions.{all_counted, sets_counted}
-use Rattle.gf_nfg.proofs.lemmas.tables.Profiles.{are_profiles}
+use Rattle.gf_nfg.proofs.Offered.{are_profiles}
 use Rattle.std.proofs.lemmas.Slice.Zip.{all_zipped_more}
 
 -- ---- first uses
@@ -199,12 +198,6 @@ module _ (g : Game) (game : IsGame g) (player : ℕ) where
 
   -- ---- first strategies so far
 
-  in_turn_more : (numbers : List ℕ) (i : ℕ) → AllByRecursion (λ n. n < i) numbers
-      → AreInTurn numbers → AreInTurn (numbers ++ i ∷ [])
-  in_turn_more [] i within h = (tt, tt)
-  in_turn_more (n ∷ numbers) i within h =
-      grind (arith, all_both, in_turn_more numbers i within.1 h.1)
-
   wider : (numbers : List ℕ) (i : ℕ) → AllByRecursion (λ n. n < i) numbers
       → AllByRecursion (λ n. n < i + 1) numbers
   wider numbers i =
@@ -226,7 +219,6 @@ module _ (g : Game) (game : IsGame g) (player : ℕ) where
       (image_at again.0 early ∙ again.2 ∙ sym (image_at i less)) in record {
         are = h.are ∙ sym (simp take-map at left);
         within = wider numbers i h.within;
-        ordered = h.ordered;
       }
 
   pub first_kept : (numbers next : List ℕ) (i : ℕ) → i < length all
@@ -241,7 +233,6 @@ module _ (g : Game) (game : IsGame g) (player : ℕ) where
       let kept = simp take-map at new in record {
         are = grind (arith, kept, map-append, image_at i less, h.are);
         within = grind (arith, all_both, wider, h.within);
-        ordered = rw is (in_turn_more numbers i h.within h.ordered);
       }
 
   -- strategies that reduce like earlier ones are left out

@@ -12,7 +12,7 @@ use Common.{payoff, branch, Option, get_or, AddsTo, AllZip, Ratio, Trees, false,
 use Common.{total, true, List, Some, None, drop, refl, ◌||◌, Game, Step, Play, zero, ◌==◌, Tree, []}
 use Common.{none, more, Node, ◌≡◌, inr, Has, has, suc, ◌+◌, ◌-◌, ◌<◌, not, zip, ◌↔◌, map, sym, ◌∙◌}
 use Common.{inl, ◌∷◌, ℕ}
-use Rattle.gf_tree.proofs.lemmas.stores.KnownKeys.{used_before}
+use Rattle.gf_tree.proofs.Offered.{used_before}
 use Rattle.gf_form.proofs.lemmas.strategies.Lookups.{strategy_before, own_set}
 use Rattle.gf_form.proofs.lemmas.values.BottomUp.{payoff_is, share}
 use Rattle.std.proofs.Math.Path.{transport⁻¹, transport}

@@ -1,24 +1,28 @@
 -- The digits of one player's sets, and his visits to these; a search for first strategies, and that
 -- for their labels, before the first choice; and what the player has at the end.
 use Rattle.gf_form.proofs.Common
-use Common.{slice_get-get_or, mul-le-mul_right, AllByRecursion, reduced_labels, []}
-use Common.{is_relevant_at, action_counts, FindRelevance, AreLabelledTo, append_assoc, steps_after}
+use Common.{slice_get-get_or, mul-le-mul_right, AllByRecursion, []}
+use Common.{is_relevant_at, action_counts, FindRelevance, append_assoc, steps_after}
 use Common.{ArePositive, digits_from, player_keys, is_relevant, AreFirstsOf, HaveChoices, is_met_on}
 use Common.{same_choice, digits_with, get_or-map, choices_at, strategies, AreFoundTo, ℕ}
-use Common.{IsSearched, actions_of, first_uses, drop-drop, choice_at, pointwise, map_twice, reduced}
-use Common.{numbered, OwnDigit, digit_at, cases_lt, steps_to, steps_of, IsLevel, is_left}
-use Common.{product, IsShown, nat_lt, AreOwn, picked, SetKey, IsGame, IsFine, is_met, length, subst}
+use Common.{IsSearched, actions_of, first_uses, drop-drop, choice_at, pointwise, reduced}
+use Common.{numbered, OwnDigit, digit_at, steps_to, steps_of, IsLevel, is_left}
+use Common.{product, nat_lt, AreOwn, picked, SetKey, IsGame, IsFine, is_met, length, subst}
 use Common.{get_or, Level, arith, false, width, Visit, ◌&&◌, List, ◌++◌, drop, refl, take, ◌||◌, ap}
 use Common.{Game, ◌≡◌, ◌+◌, ◌*◌, ◌^◌, ◌<◌, ◌≤◌, ◌∷◌, sym, ◌∙◌, map, suc}
-use Rattle.gf_form.proofs.lemmas.rows.DigitPlaces.{width_positive, steps_long}
-use Rattle.gf_form.proofs.lemmas.rows.DigitsMade.{next_is}
+use Rattle.gf_form.proofs.lemmas.rows.Digits.{width_positive, steps_long}
+use Rattle.gf_form.proofs.lemmas.rows.Digits.{next_is}
 use Rattle.gf_form.specs.inner.reduced.Visits.{HoldTheSame}
 use Rattle.gf_form.proofs.lemmas.reduced.LevelsChosen.{no_visit}
 use Rattle.gf_form.proofs.lemmas.reduced.Searches.{place_inside}
+use Rattle.gf_form.proofs.lemmas.reduced.RowsGiven.{no_found}
+use Rattle.gf_form.specs.declared.reduced.labels.Found.{Found}
+use Rattle.gf_form.specs.inner.reduced.Rows.{AreTold, ChooseInTurn, IsTold}
+use Common.{mod-eq_of_lt, recursion_from_All, All-from_get_or}
 use Rattle.std.proofs.lemmas.Bool.Decides.{nat_tests}
 use Rattle.std.proofs.lemmas.List.{get_or-drop}
-use Rattle.gf_form.proofs.lemmas.rows.DigitChoices.{choice_at_number, product_picked, picked_at}
-use Rattle.gf_form.proofs.lemmas.rows.DigitChoices.{width_fits}
+use Rattle.gf_form.proofs.lemmas.rows.GameDigits.{choice_at_number, product_picked, picked_at}
+use Rattle.gf_form.proofs.lemmas.rows.GameDigits.{width_fits}
 use Rattle.gf_form.proofs.lemmas.strategies.Choices.{length-all_choices, choice_length}
 use Rattle.gf_form.proofs.lemmas.strategies.CountedActions.{actions_positive, sets_counted}
 use Rattle.gf_form.proofs.lemmas.strategies.CountedActions.{take_past}
@@ -180,12 +184,34 @@ module _ (g : Game) (game : IsGame g) (player : ℕ) (digits : List OwnDigit)
     };
   }
 
-  pub shown_all : HoldTheSame visits level.visits.items → IsLevel (length counts) level
-      → IsShown g player digits level 0 whole
-  shown_all held levelled = record {
-    choices = all_choices_had;
+  pub all_in_turn : ChooseInTurn g player digits whole
+  all_in_turn = record {
+    fine = all_choices_had.fine;
+    counted = all_choices_had.counted;
+    chosen = λ n within.
+        let less : n < whole = omega (arith, within, whole_is, length-all_choices counts) in
+        rw (mod-eq_of_lt less) (all_choices_had.chosen n n (omega arith) less);
+  }
+
+  pub told_all : HoldTheSame visits level.visits.items → IsLevel (length counts) level
+      → (numbers : List ℕ) → AreFirstsOf g numbers player → (all : List Found)
+      → length all ≡ length numbers → ((place : ℕ) (d : Found) → place < length numbers
+      → get_or all place d ≡ record { place = place; number = get_or numbers place 0 })
+      → AreTold g player digits numbers level all
+  told_all held levelled numbers firsts all long each = record {
     levelled = rw (sym (sets_counted g player)) levelled;
-    tells = λ n place from to among. told_by visits held n place place to among refl;
+    each = recursion_from_All (IsTold g player digits numbers level) all
+        (All-from_get_or (IsTold g player digits numbers level) all no_found (λ i inside.
+        let less : i < length numbers = omega (arith, inside, long) in
+        let n = get_or numbers i 0 in
+        let within = all_at (λ n. n < length (strategies g player)) numbers i 0 firsts.1 less in
+        rw (each i no_found less) (record {
+          there = less;
+          number = refl;
+          within = within;
+          tells = λ place among. told_by visits held n place place
+              (omega (arith, within, whole_is, length-all_choices counts)) among refl;
+        })));
   }
 
 -- ---- nothing is found yet
@@ -193,13 +219,6 @@ module _ (g : Game) (game : IsGame g) (player : ℕ) (digits : List OwnDigit)
 pub none_found_yet : (g : Game) (player : ℕ) (numbers : List ℕ) → numbers ≡ []
     → AreFoundTo g player numbers 0
 none_found_yet g player numbers none = grind arith
-
-pub none_labelled_yet : (g : Game) (player : ℕ) (numbers : List ℕ) (labels : List (List ℕ))
-    (number : ℕ) → labels ≡ []
-    → (length labels < length numbers → number ≤ get_or numbers (length labels) 0)
-    → AreLabelledTo g player numbers labels number
-none_labelled_yet g player numbers labels number none next =
-    record { are = grind arith; next = next }
 
 -- ---- at the end
 
@@ -220,11 +239,4 @@ module _ (g : Game) (game : IsGame g) (player : ℕ) (numbers : List ℕ) (whole
     subst (λ (n : ℕ). AllByRecursion (λ number. number < n) numbers) past found.within,
   )
 
-  -- each of the numbers has a label
-  pub labels_are : (labels : List (List ℕ)) → AreLabelledTo g player numbers labels whole
-      → labels ≡ reduced_labels g player
-  labels_are labels labelled = grind (arith, cases_lt, all_at, take_past, map_twice, firsts_are)
-
 pub ruleset start_steps = (actions_positive, width_fits, few_digits, none_found_yet)
-
-pub ruleset label_steps = (none_labelled_yet, labels_are)

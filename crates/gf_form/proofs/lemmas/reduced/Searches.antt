@@ -2,29 +2,29 @@
 -- finds where it goes no further. And the labels of those that were found, come to in the same way.
 use Rattle.gf_form.proofs.Common
 use Common.{mul-div_cancel_left, div-lt_iff_lt-mul, mul-le-mul_right, length-take-le, if◌then◌else◌}
-use Common.{AllByRecursion, is_relevant_at, action_counts, AreFirstBelow, length-append, IsSearched}
-use Common.{reduced_label, relevant_sets, AreLabelledTo, get_or-take, digits_from, length-drop, ◌≡◌}
-use Common.{all_choices, ArePositive, HaveChoices, IsNextBelow, actions_of, is_settled, strategies}
-use Common.{choices_at, IsChosenAt, can_be_met, AreFoundTo, map-append, length-map, cases_Bool, suc}
-use Common.{take_more, AreInTurn, IsChosen, OwnDigit, IsToldBy, digit_at, numbered, list_any, arith}
-use Common.{cases_lt, steps_to, IsLevel, is_left, IsFirst, product, IsShown, reduced, length, Level}
-use Common.{get_or, IsFine, IsGame, is_met, nat_lt, Visit, false, subst, shown, take, drop, ◌&&◌, ℕ}
-use Common.{Game, zero, Bool, true, List, refl, ◌==◌, ◌||◌, ◌++◌, ◌+◌, ◌<◌, ◌≤◌, ◌∷◌, inl, inr, sym}
+use Common.{AllByRecursion, is_relevant_at, action_counts, AreFirstBelow, IsSearched}
+use Common.{get_or-take, digits_from, length-drop, ◌≡◌}
+use Common.{all_choices, ArePositive, HaveChoices, actions_of, is_settled, strategies}
+use Common.{choices_at, IsChosenAt, can_be_met, AreFoundTo, cases_Bool, suc}
+use Common.{OwnDigit, IsToldBy, digit_at, numbered, list_any, arith}
+use Common.{cases_lt, steps_to, IsLevel, is_left, IsFirst, product, length, Level}
+use Common.{get_or, IsFine, IsGame, is_met, nat_lt, Visit, false, subst, take, drop, ◌&&◌, ℕ}
+use Common.{Game, zero, Bool, true, List, refl, ◌==◌, ◌||◌, ◌+◌, ◌<◌, ◌≤◌, ◌∷◌, inl, inr, sym}
 use Common.{◌∙◌, ◌-◌, ◌*◌, ◌/◌, ◌^◌, ap, []}
 use Rattle.gf_form.specs.inner.reduced.Levels.{Marks}
 use Rattle.gf_form.proofs.lemmas.strategies.StrategiesByNumber.{positive_parts, choices_next}
-use Rattle.gf_form.proofs.lemmas.strategies.StrategiesByNumber.{choices_row, all_at}
+use Rattle.gf_form.proofs.lemmas.strategies.StrategiesByNumber.{choices_row}
 use Rattle.std.proofs.lemmas.Bool.Decides.{nat_tests}
-use Rattle.gf_form.proofs.lemmas.rows.DigitChoices.{choice_at_number}
+use Rattle.gf_form.proofs.lemmas.rows.GameDigits.{choice_at_number}
 use Rattle.gf_form.proofs.lemmas.strategies.CountedActions.{action_within}
 use Rattle.gf_form.proofs.lemmas.strategies.Choices.{length-all_choices, long}
-use Rattle.gf_form.proofs.lemmas.reduced.FirstStrategies.{reduced_shown_at, IsRepeated, passed_by}
-use Rattle.gf_form.proofs.lemmas.reduced.FirstStrategies.{flags_fit, repeated}
+use Rattle.gf_form.proofs.lemmas.reduced.FirstStrategies.{IsRepeated, passed_by}
+use Rattle.gf_form.proofs.lemmas.reduced.FirstStrategies.{repeated}
 use Rattle.std.proofs.lemmas.List.{ext_get_or, nil_from_length}
 use Rattle.std.proofs.Math.Bool.{and-true}
-use Rattle.gf_form.proofs.lemmas.rows.DigitsMade.{next_is}
+use Rattle.gf_form.proofs.lemmas.rows.Digits.{next_is}
 
-steps_positive : (digits : List OwnDigit) → AllByRecursion IsFine digits
+pub steps_positive : (digits : List OwnDigit) → AllByRecursion IsFine digits
     → ArePositive (steps_to digits)
 steps_positive [] h = tt
 steps_positive (d ∷ digits) h = (h.0.step, steps_positive digits h.1)
@@ -112,18 +112,6 @@ module _ {g : Game} {player number count : ℕ} {d : OwnDigit} {faster : List Ow
       let end = next_end told.choices before less in
       let here = chosen_there told.choices before less n from to in
       grind (arith, told.tells n place)
-
-  pub next_told : IsChosen d.step action level left → IsToldBy g player faster flag places left
-      (number + before * (count / d.actions)) (count / d.actions)
-  next_told chosen = record {
-    choices = next_choices told.choices before less;
-    levelled = rw told.levelled.counted at levelled;
-    tells = λ n place from to among.
-        told_there n place from to among
-        ∙ sym (chosen place (steps_to faster) (choices_at g player faster n)
-        (omega (arith, among, told.levelled.counted))
-        (steps_positive faster told.choices.fine.1));
-  }
 
   -- with other flags, which are set at one more place, if the first action is chosen
   pub next_told_at : (other : ℕ) (next : ℕ → ℕ → Bool) → IsChosenAt other d.step action level left
@@ -351,63 +339,4 @@ module _ (g : Game) (game : IsGame g) (player : ℕ) where
               (moved below.told.choices n from before_end)))
         ]
 
--- ---- one label more
-
-in_turn_at : (numbers : List ℕ) (k : ℕ) → AreInTurn numbers → suc k < length numbers
-    → get_or numbers k 0 < get_or numbers (suc k) 0
-in_turn_at (n ∷ numbers) zero h less =
-    all_at (λ m. n < m) numbers 0 0 h.0 (omega (arith, less))
-in_turn_at (n ∷ numbers) (suc k) h less = in_turn_at numbers k h.1 (omega (arith, less))
-in_turn_at [] k h less = absurd (omega (arith, less))
-
-module _ (g : Game) (game : IsGame g) (player : ℕ) (level : Level) (number : ℕ)
-    (last : IsShown g player [] level number 1) where
-  pub within : number < length (strategies g player)
-  within = omega (arith, last.choices.end)
-
-  pub known_fit : length level.known.items ≡ length (numbered g player number)
-  known_fit = grind (arith, length-map, flags_fit g game player number within)
-
-  pub label_is : (met : List Bool) → Marks level met
-      → reduced_label (shown met (numbered g player number))
-      ≡ reduced_label (reduced g player (numbered g player number))
-  label_is met marks =
-      ap (λ (fs : List Bool). reduced_label (shown fs (numbered g player number))) flags
-      ∙ ap reduced_label (sym (reduced_shown_at g game player number within))
-    where
-      flags : met ≡ relevant_sets g player (numbered g player number)
-      flags = ext_get_or false met (relevant_sets g player (numbered g player number))
-          (marks.counted ∙ known_fit ∙ sym (flags_fit g game player number within))
-          (λ place among. marks.marked place (omega (arith, among, marks.counted))
-          ∙ sym (left_all place level)
-          ∙ sym (last.tells number place (omega arith) (omega arith)
-          (omega (arith, among, marks.counted, last.levelled.counted))))
-
-pub one_label_more : (g : Game) (player : ℕ) (numbers : List ℕ) (labels next : List (List ℕ))
-    (label : List ℕ) (number : ℕ) → AreInTurn numbers → IsNextBelow numbers labels (number + 1)
-    → AreLabelledTo g player numbers labels number
-    → label ≡ reduced_label (reduced g player (numbered g player number))
-    → next ≡ labels ++ label ∷ [] → AreLabelledTo g player numbers next (number + 1)
-one_label_more g player numbers labels next label number in_turn due labelled label_is next_is =
-    record {
-      are = grind (
-        arith,
-        label_is,
-        labelled.are,
-        is,
-        more,
-        take_more numbers (length labels) 0 due.0,
-        map-append,
-      );
-      next = λ less. grind (arith, more, is, in_turn_at numbers (length labels) in_turn);
-    }
-  where
-    more : length next ≡ length labels + 1
-    more = grind (arith, length-append)
-
-    is : get_or numbers (length labels) 0 ≡ number
-    is = omega (arith, due.0, due.1, labelled.next due.0)
-
 pub ruleset search_steps = (some_actions, step_fits, nil_from_length)
-
-pub ruleset shown_steps = (within, known_fit, length-all_choices)

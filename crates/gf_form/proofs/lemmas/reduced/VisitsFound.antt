@@ -1,19 +1,19 @@
 -- The visits of a player that a walk through the tree meets show which of his sets are relevant.
 use Rattle.gf_form.proofs.Common
-use Common.{same_set_equality, list_any-append, option_and_then, InformationSet, FindRelevance, ◌<◌}
-use Common.{action_counts, option_map_or, visit_handing, steps_after, AllZip-long, player_keys, sym}
-use Common.{at_position, AreDistinct, place_among, player_sets, AreActions, length-map, slice_get}
-use Common.{eqb-false, own_steps, choice_at, own_visit, visits_of, is_met_on, AreDigits, demanding}
-use Common.{visits_by, visit_at, list_any, same_set, eqb-true, own_step, descent, eq-eqb, picked, ℕ}
-use Common.{Option, SetKey, set_at, IsGame, has_at, length, get_or, width, Visit, false, arith, ◌^◌}
-use Common.{meets, refl, true, Bool, List, ◌==◌, Some, None, Game, kept, Stop, ◌≡◌, suc, ◌∷◌, ◌-◌}
+use Common.{same_set_equality, list_any-append, option_and_then, InformationSet, FindRelevance, suc}
+use Common.{action_counts, option_map_or, visit_handing, AllZip-long, AreDistinct, at_position, sym}
+use Common.{place_among, player_keys, player_sets, steps_after, AreActions, length-map, AreDigits}
+use Common.{choice_at, demanding, eqb-false, is_met_on, own_steps, own_visit, slice_get, visits_by}
+use Common.{visits_of, eqb-true, list_any, own_step, same_set, visit_at, descent, IsGame, Option, ℕ}
+use Common.{SetKey, eq-eqb, get_or, has_at, length, picked, set_at, Visit, arith, false, meets, ◌-◌}
+use Common.{width, Bool, Game, List, None, Some, Stop, kept, refl, true, ◌==◌, ◌<◌, ◌^◌, ◌∷◌, ◌≡◌}
 use Common.{◌≤◌, []}
-use Rattle.gf_form.proofs.lemmas.rows.DemandDigits.{none_within, no_demands, none_pack, none_met}
+use Rattle.gf_form.proofs.lemmas.rows.Digits.{none_within, no_demands, none_pack, none_met}
+use Rattle.gf_form.proofs.lemmas.rows.Digits.{are_digits}
 use Rattle.gf_form.proofs.lemmas.strategies.Lookups.{zip_at, keys_distinct, own_set}
 use Rattle.gf_form.proofs.lemmas.reduced.Coming.{relevant_is}
-use Rattle.gf_form.proofs.lemmas.rows.DigitPlaces.{are_digits}
 use Rattle.gf_form.proofs.lemmas.rows.GameDigits.{IsAmong, among_own, said_there}
-use Rattle.gf_form.proofs.lemmas.rows.MetNodes.{AreFreed, tree_kept}
+use Rattle.gf_form.proofs.lemmas.rows.Descents.{AreFreed, tree_kept}
 
 -- ---- places
 

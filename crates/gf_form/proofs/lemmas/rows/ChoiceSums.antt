@@ -1,24 +1,23 @@
 -- Terms that are added up for each choice of an action at each digit.
-use Rattle.gf_form.proofs.Common
-use Common.{mul-le-mul_right, AllByRecursion, with_demands, all_choices, first_terms, AreExactAt, ℕ}
-use Common.{all_images, all_weaker, append-nil, map-append, AreMerged, IsExactAt, all_parts, ComeTo}
-use Common.{all_terms, EndsBelow, map_twice, all_both, cases_lt, steps_of, AreAlike, lowered, Terms}
-use Common.{product, get_or, length, arith, spans, subst, Asked, meets, Term, part, refl, List, map}
-use Common.{◌++◌, ints, OnOk, true, zero, sym, ◌∷◌, ◌≡◌, ◌∙◌, inl, inr, ◌+◌, ◌-◌, ◌*◌, ◌<◌, ◌≤◌, []}
-use Common.{◌⊎◌, Err, Run, suc}
+use Rattle.gf_form.proofs.Common.{mul-le-mul_right, AllByRecursion, with_demands, all_choices, List}
+use Rattle.gf_form.proofs.Common.{first_terms, AreExactAt, all_images, all_weaker, append-nil, OnOk}
+use Rattle.gf_form.proofs.Common.{map-append, AreMerged, EndsBelow, IsExactAt, all_parts, all_terms}
+use Rattle.gf_form.proofs.Common.{map_twice, AreAlike, all_both, cases_lt, steps_of, lowered, Asked}
+use Rattle.gf_form.proofs.Common.{product, ComeTo, get_or, length, Terms, arith, meets, spans, Term}
+use Rattle.gf_form.proofs.Common.{subst, ints, part, refl, true, zero, ◌++◌, Err, Run, inl, inr, []}
+use Rattle.gf_form.proofs.Common.{map, suc, sym, ◌*◌, ◌+◌, ◌-◌, ◌<◌, ◌∙◌, ◌∷◌, ◌≡◌, ◌≤◌, ◌⊎◌, ℕ}
 use Rattle.std.specs.Prelude.{Ok, Result}
 use Rattle.std.proofs.lemmas.List.{append_assoc, take_rest}
 use Rattle.gf_form.specs.declared.rows.digits.Digit.{Digit}
 use Rattle.gf_form.specs.inner.rows.GameDigits.{actions_at}
 use Rattle.gf_form.specs.inner.rows.TermLists.{AreInOrder, CountsBelow}
-use Rattle.gf_form.specs.inner.rows.ChoiceSums.{AddUpTo, AreActions, AreAddedUp, HasSums}
-use Rattle.gf_form.specs.inner.rows.ChoiceSums.{raised}
+use Rattle.gf_form.specs.inner.rows.ChoiceSums.{AddUpTo, AreActions, AreAddedUp, HasSums, raised}
 use Rattle.gf_form.specs.inner.rows.SettledRows.{SettleBy}
-use Rattle.gf_form.proofs.lemmas.rows.DigitChoices.{choice_at_number}
-use Rattle.gf_form.proofs.lemmas.rows.MergedTerms.{come_moved, come_none, come_to_both}
-use Rattle.gf_form.proofs.lemmas.rows.MergedTerms.{free_met, other_unmet, raised_met, sum_append}
-use Rattle.gf_form.proofs.lemmas.rows.MergedTerms.{IsFree, IsOther, IsOwn}
-use Rattle.gf_form.proofs.lemmas.rows.DemandDigits.{spans_above}
+use Rattle.gf_form.proofs.lemmas.rows.GameDigits.{choice_at_number}
+use Rattle.gf_form.proofs.lemmas.rows.MergedTerms.{come_moved, come_none, come_to_both, free_met}
+use Rattle.gf_form.proofs.lemmas.rows.MergedTerms.{other_unmet, raised_met, sum_append, IsFree}
+use Rattle.gf_form.proofs.lemmas.rows.MergedTerms.{IsOther, IsOwn}
+use Rattle.gf_form.proofs.lemmas.rows.Digits.{spans_above}
 use Rattle.gf_form.proofs.lemmas.rows.FlatRows.{terms_count}
 use Rattle.gf_form.proofs.lemmas.rows.Merges.{cut, lowered_none, range}
 use Rattle.gf_form.proofs.lemmas.rows.PairRows.{free_met as zero_met}
@@ -105,10 +104,7 @@ module _ (faster : List ℕ) (es : List Term) (least done : ℕ) (old now new : 
         let none = come_none den (step ∷ steps) (c ∷ choices) [] [] (IsOther step c)
         (other_unmet step c steps choices) own (all_weaker (IsOwn step (done + 1)) (IsOther step c)
         (λ e h. (omega (arith, h.0, first_le), inr (omega (arith, h.0, below)))) own are_own) in
-        record {
-          exact = one.exact;
-          sums = λ k. simp sum_append (omega (arith, ints, one.sums k, none.sums k));
-        }
+        grind (arith, sum_append, ints)
 
     -- at the new one, those before it do
     at_latest : AddsUpAt (done + 1)
@@ -126,11 +122,7 @@ module _ (faster : List ℕ) (es : List Term) (least done : ℕ) (old now new : 
         more.within parts.1 in
         let one = more.add_up den choices valid low.exact in
         let other = merged den steps choices one.exact in
-        record {
-          exact = other.exact;
-          sums = λ k. simp sum_append
-              (omega (arith, ints, other.sums k, one.sums k, low.sums k, none.sums k));
-        }
+        grind (arith, sum_append, ints)
 
   adds_up : AddUpTo ((done + 1) ∷ faster) es (before.sums ++ own)
   adds_up den [] valid = absurd valid
@@ -162,13 +154,7 @@ module _ (faster : List ℕ) (es : List Term) (least done : ℕ) (old now new : 
 
 pub last_summing : (n : ℕ) (faster : List ℕ) (es : List Term) (least : ℕ) (old new : List Term)
     → Summing faster es least n old new → HasSums (n ∷ faster) least es old new
-last_summing n faster es least old new done = record {
-  sums = done.sums;
-  is = done.is;
-  within = all_weaker (IsBetween (product (spans faster)) ((n + 1) * product (spans faster)))
-      (IsFree ((n + 1) * product (spans faster))) (λ e h. h.1) done.sums done.within;
-  add_up = done.add_up;
-}
+last_summing n faster es least old new done = grind (arith, all_weaker, IsFree)
 
 -- ---- if nothing more is demanded
 

@@ -1,14 +1,54 @@
--- Terms whose numbers stand one row after another.
+-- Rows that are made item by item, and terms whose numbers stand one row after another.
 use Rattle.gf_form.proofs.Common
-use Common.{get_or_append_left, get_or-append_seam, length-take-le, length-append, first_terms, ◌≡◌}
-use Common.{take-length, get_or_past, length-drop, map-append, number_at, all_terms, dvd_refl, zero}
-use Common.{IsShaped, take-suc, zero-*ℤ, term_at, no_term, IsScale, IsSumOf, length, get_or, Scaled}
-use Common.{subst, arith, Scale, Terms, Term, ◌+ℤ◌, ◌*ℤ◌, List, ◌++◌, take, refl, Head, suc, ◌+◌, ℕ}
-use Common.{◌*◌, ◌<◌, ◌≤◌, ◌/◌, ◌∷◌, pos, sym, ◌∙◌, map, [], ap, ℤ}
-use Rattle.std.proofs.Math.Seq.{drop-append_seam}
-use Rattle.std.proofs.lemmas.List.{drop-append-le, take-append-le, get_or_push}
-use Rattle.gf_form.specs.inner.rows.TermLists.{IsFactor, IsNoted, IsSumAt}
+use Common.{fits_signed_from_abs, get_or-append_seam, get_or_append_left, AllByRecursion, all_terms}
+use Common.{length-take-le, length-append, first_terms, get_or_past, length-drop, take-length, Head}
+use Common.{append-nil, map-append, number_at, to_z-of_z, IsShaped, IsWithin, cases_lt, dvd_refl, ℕ}
+use Common.{take-suc, IsScale, IsSumOf, no_term, term_at, zero-*ℤ, Scaled, get_or, length, Scale, ℤ}
+use Common.{Terms, arith, false, subst, List, Term, of_z, refl, take, to_z, true, w128, zero, ◌*ℤ◌}
+use Common.{◌++◌, ◌+ℤ◌, inl, inr, map, pos, suc, sym, ◌*◌, ◌+◌, ◌/◌, ◌<◌, ◌∙◌, ◌∷◌, ◌≡◌, ◌≤◌, ◌⊎◌}
+use Common.{[], ap}
+use Rattle.std.proofs.lemmas.List.{append_assoc, drop-append-le, take-append-le, get_or_push}
 use Rattle.gf_form.specs.inner.rows.ItemRows.{HasRow}
+use Rattle.std.proofs.Math.Nat.{div_self}
+use Rattle.std.proofs.Math.Seq.{drop-append_seam}
+use Rattle.gf_form.specs.inner.rows.TermLists.{IsFactor, IsNoted, IsSumAt}
+
+-- ---- rows that are made item by item
+
+pub no_item : {A : Type 0} (IsAt : ℕ → A → Type 0) (old : List A) → HasRow IsAt 0 old old
+no_item IsAt old = grind (arith, append-nil)
+
+-- one more item; what is so of those before it may be weaker than it was
+pub one_item : {A : Type 0} (Was IsAt : ℕ → A → Type 0) (place : ℕ) (old new after : List A) (x : A)
+    → after ≡ new ++ x ∷ [] → ((k : ℕ) (y : A) → Was k y → IsAt k y) → IsAt place x
+    → HasRow Was place old new → HasRow IsAt (place + 1) old after
+one_item Was IsAt place old new after x is weaker here before = record {
+  row = before.row ++ x ∷ [];
+  is = grind (arith, append_assoc);
+  one_each = grind (arith, length-append);
+  each = λ k d less. by k d less (cases_lt k place);
+}
+  where
+    by : (k : ℕ) (d : _) → k < place + 1 → (k < place) ⊎ (place ≤ k)
+        → IsAt k (get_or (before.row ++ x ∷ []) k d)
+    by k d less (inl h) = grind (arith, get_or_append_left)
+    by k d less (inr h) = grind (arith, get_or-append_seam)
+
+pub all_by_place : {A : Type 0} (P : A → Type 0) (xs : List A)
+    → ((k : ℕ) (d : A) → k < length xs → P (get_or xs k d)) → AllByRecursion P xs
+all_by_place P [] each = tt
+all_by_place P (x ∷ xs) each =
+    (each 0 x (omega arith), all_by_place P xs (λ k d less. each (suc k) d (omega (arith, less))))
+
+-- a number within bounds is kept by its type
+pub in_bits : (z : ℤ) → IsWithin z → to_z w128 (of_z w128 z) ≡ z
+in_bits z small = to_z-of_z w128 z (fits_signed_from_abs w128 z small)
+
+-- what is said of numbers that fit, where they do not
+pub unknown : {A : Type 0} → false ≡ true → A
+unknown known = absurd cc
+
+-- ---- terms whose numbers stand one row after another
 
 pub none_taken : {X : Type 0} (xs : List X) → take 0 xs ≡ []
 none_taken xs = grind arith
@@ -107,14 +147,11 @@ module _ (to after : Terms) (e : Term) (shaped : IsShaped to)
 
 -- ---- two terms over one denominator
 
-pub itself : (n : ℕ) → 0 < n → n / n ≡ 1
-itself n above = grind arith
-
 pub same_scale : (a b : Head) (size : ℕ) → a.den ≡ b.den → 0 < a.den → size ≡ a.size + b.size
     → IsScale a b (record { den = a.den; size = size; first = 1; second = 1 })
 same_scale a b size same above is =
     let factor : IsFactor a.den a.den 1 =
-    record { above = above; divides = dvd_refl a.den; factor_is = sym (itself a.den above) } in
+    record { above = above; divides = dvd_refl a.den; factor_is = sym (div_self above) } in
     record {
       first = factor;
       second = subst (λ (n : ℕ). IsFactor n a.den 1) same factor;

@@ -1,34 +1,145 @@
--- What is made from the numbers of actions are the digits of the game.
+-- The choices of the profile with a number, which have that number among all choices at the digits;
+-- and the digits of a game, which are made from its numbers of actions.
 use Rattle.gf_form.proofs.Common
-use Common.{unwrap_or-slice_get, length-profiles, get_or_default, InformationSet, description_at, ℕ}
-use Common.{digit_actions, action_counts, full_profiles, strategies_at, steps_after, player_sets}
-use Common.{all_choices, AreDigitsOf, ArePositive, is_personal, player_keys, AreDistinct, slice_get}
-use Common.{option_map, length-map, choices_by, players_of, strategies, AreStepsOf, choice_at, cond}
-use Common.{none-some, Described, HasDigits, AreDigits, ArePlaced, same_set, in_order, all_both, []}
-use Common.{product, IsGame, set_at, Digits, length, get_or, SetKey, picked, eq-eqb, arith, false}
-use Common.{subst, List, Some, refl, find, Game, Bool, true, ◌≡◌, suc, ◌-◌, ◌<◌, ◌∷◌, map, sym, ◌∙◌}
-use Common.{ap, width, ◌+◌, ◌*◌, ◌^◌, take, add-one, demanded}
-use Common.{Digit, get_or-map, steps_of, ◌/◌, ◌%◌}
-use Rattle.std.proofs.Math.Nat.{div-zero}
-use Common.{false_from_ne_true, AreCounts, Counts, ◌++◌, ◌≤◌}
-use Rattle.std.proofs.lemmas.List.{take-map}
-use Rattle.gf_form.proofs.lemmas.strategies.Choices.{length-all_choices}
-use Rattle.gf_form.proofs.lemmas.strategies.Chosen.{among_his, have_actions, nothing_chosen}
-use Rattle.gf_form.proofs.lemmas.strategies.Chosen.{profile_strategies}
-use Rattle.gf_form.proofs.lemmas.strategies.CountedActions.{actions_positive}
+use Common.{unwrap_or-slice_get, div-lt_iff_lt-mul, pos_of_dvd_of_pos, length-profiles, AreDigitsOf}
+use Common.{InformationSet, description_at, get_or_default, action_counts, digit_actions, AreCounts}
+use Common.{full_profiles, strategies_at, mod-eq_of_lt, AreDistinct, ArePositive, all_choices, Bool}
+use Common.{is_personal, mod-add-div, player_keys, player_sets, steps_after, choices_by, length-map}
+use Common.{mul-le-mul, option_map, players_of, strategies, AreDigits, AreMadeOf, ArePlaced, Counts}
+use Common.{Described, HasDigits, choice_at, none-some, slice_get, all_both, dvd_refl, in_order, []}
+use Common.{mul_comm, same_set, add-one, product, Digits, IsGame, SetKey, eq-eqb, get_or, length, ℕ}
+use Common.{mod-lt, picked, set_at, arith, false, subst, width, Game, List, Some, cond, find, refl}
+use Common.{take, true, zero, ◌++◌, map, suc, sym, ◌%◌, ◌*◌, ◌+◌, ◌-◌, ◌/◌, ◌<◌, ◌^◌, ◌∙◌, ◌∣◌, ◌∷◌}
+use Common.{◌≡◌, ◌≤◌, ap}
+use Rattle.gf_form.proofs.lemmas.strategies.Choices.{IsChoice, are_choices, length-all_choices}
+use Rattle.gf_form.proofs.lemmas.strategies.Choices.{long}
+use Rattle.gf_form.proofs.lemmas.strategies.CountedActions.{product_positive, actions_positive}
 use Rattle.gf_form.proofs.lemmas.strategies.CountedActions.{actions_in, as_many_players, of_player}
 use Rattle.gf_form.proofs.lemmas.strategies.CountedActions.{product_more, product_within}
 use Rattle.gf_form.proofs.lemmas.strategies.CountedActions.{strategies_positive, strategy_counts}
-use Rattle.gf_form.proofs.lemmas.rows.DigitChoices.{in_order_numbered, picked_at}
-use Rattle.gf_form.proofs.lemmas.rows.DigitChoices.{Demands, choice_at_number, chosen_within}
-use Rattle.gf_form.proofs.lemmas.rows.DigitChoices.{demands_fit, demands_on}
-use Rattle.gf_form.proofs.lemmas.rows.DigitChoices.{product_in_order, product_picked, width_fits}
-use Rattle.gf_form.proofs.lemmas.rows.DemandDigits.{digit_is, pack}
-use Rattle.gf_form.proofs.lemmas.rows.DigitsMade.{player_order}
-use Rattle.gf_form.proofs.lemmas.rows.DigitPlaces.{among_all, as_long, are_digits}
+use Rattle.gf_form.proofs.lemmas.rows.Digits.{product_joined, player_order, among_all, as_long}
+use Rattle.gf_form.proofs.lemmas.rows.Digits.{are_digits, faster_part}
+use Rattle.std.proofs.Math.Nat.{dvd-mul_left_of_dvd}
+use Rattle.gf_form.proofs.lemmas.strategies.PickedProfiles.{numbered, numbered_strategies}
+use Rattle.gf_form.proofs.lemmas.strategies.StrategiesByNumber.{all_at, choices_next, joined_at}
+use Rattle.gf_form.proofs.lemmas.strategies.StrategiesByNumber.{positive_parts}
+use Rattle.std.proofs.lemmas.List.{take-map}
+use Rattle.gf_form.proofs.lemmas.strategies.Chosen.{among_his, have_actions, nothing_chosen}
+use Rattle.gf_form.proofs.lemmas.strategies.Chosen.{profile_strategies}
+use Rattle.gf_form.specs.inner.rows.DigitSteps.{strides_of}
 use Rattle.gf_form.proofs.lemmas.strategies.Lookups.{keys_distinct, set_is, strategy_before}
 use Rattle.gf_form.proofs.lemmas.values.Walks.{choice_there}
-use Rattle.gf_form.proofs.lemmas.strategies.PickedProfiles.{numbered_strategies}
+
+-- ---- the choices of the profile with a number
+
+pub choice_at_number : (counts : List ℕ) (n : ℕ) → n < product counts
+    → IsChoice counts (get_or (all_choices counts) n [])
+choice_at_number counts n less = grind (arith, all_at, are_choices, length-all_choices)
+
+-- ---- sets with one action
+
+pub product_picked : (counts : List ℕ) → ArePositive counts
+    → product (picked counts counts) ≡ product counts
+product_picked [] h = refl
+product_picked (n ∷ counts) h = grind (arith, product_picked counts h.1)
+
+-- the choice with a number there is the choice with it at all sets
+pub picked_at : (counts : List ℕ) (number : ℕ) → ArePositive counts → number < product counts
+    → get_or (all_choices (picked counts counts)) number []
+    ≡ picked counts (get_or (all_choices counts) number [])
+picked_at [] number h less = grind arith
+picked_at (zero ∷ counts) number h less = absurd (omega (arith, h.0))
+picked_at (suc zero ∷ counts) number h less =
+    let small : number < product counts = omega (arith, less) in
+    let whole : number % product counts ≡ number = mod-eq_of_lt small in
+    let next = choices_next 1 counts number (product_positive counts h.1) less in
+    rw (next, whole) (picked_at counts number h.1 small)
+picked_at (suc (suc n) ∷ counts) number h less =
+    let same = product_picked counts h.1 in
+    let some = product_positive counts h.1 in
+    let next = choices_next (suc (suc n)) counts number some less in
+    let there = choices_next (suc (suc n)) (picked counts counts) number (rw same some)
+    (rw same less) in
+    let later = picked_at counts (number % product counts) h.1 (mod-lt number some) in
+    rw (there, next, same, later) refl
+
+-- with more than one action, one more is at most the square
+width_square : (counts : List ℕ) → ArePositive counts
+    → width counts ≤ product counts * product counts
+width_square [] h = omega arith
+width_square (suc (suc n) ∷ counts) h =
+    let more : suc (suc n) + 1 ≤ suc (suc n) * suc (suc n) = grind arith in
+    omega (
+      arith,
+      mul-le-mul more (width_square counts h.1),
+      turned (suc (suc n)) (product counts),
+    )
+  where
+    turned : (a p : ℕ) → a * a * (p * p) ≡ a * p * (a * p)
+    turned a p = grind arith
+width_square (n ∷ counts) h = grind (arith, width_square counts)
+
+pub width_fits : (counts : List ℕ) → ArePositive counts → product counts < 2 ^ 32
+    → width counts < 2 ^ 64
+width_fits counts h few = grind (arith, width_square, mul-le-mul)
+
+-- ---- all players
+
+pub product_in_order : (counts : List (List ℕ))
+    → product (in_order counts) ≡ product (map product counts)
+product_in_order [] = refl
+product_in_order (own ∷ others) =
+    grind (arith, product_joined, mul_comm, product_in_order others)
+
+-- the number of a player's strategy, and what is left of the number for those after him
+left : (own others number : ℕ) → number < own * others → (number % own < own)
+    × (number / own < others)
+left own others number less = grind arith
+
+-- the strategies of the profile with a number: they have that number among all choices
+pub in_order_numbered : (counts : List (List ℕ)) (number : ℕ)
+    → number < product (map product counts)
+    → (map length (numbered counts number) ≡ map length counts)
+    × (in_order (numbered counts number) ≡ get_or (all_choices (in_order counts)) number [])
+in_order_numbered [] number less = grind arith
+in_order_numbered (own ∷ others) number less =
+    let p = product own in
+    let parts = left p (product (map product others)) number less in
+    let later = in_order_numbered others (number / p) parts.1 in
+    let joined = (joined_at (in_order others) own (number / p) (number % p)
+    (omega (arith, parts.1, product_in_order others)) parts.0).1 in
+    grind (arith, mod-add-div, long)
+
+-- ---- one choice in the number of all
+
+stride_divides : (counts : List ℕ) (i : ℕ) → i < length counts
+    → get_or (strides_of counts) i 0 * get_or counts i 0 ∣ product counts
+stride_divides (n ∷ counts) zero less = rw (mul_comm n (product counts)) (dvd_refl _)
+stride_divides (n ∷ counts) (suc i) less =
+    dvd-mul_left_of_dvd _ (stride_divides counts i (omega (arith, less))) n
+stride_divides [] i less = absurd (omega arith)
+
+pub choice_by_stride : (counts : List ℕ) (number i : ℕ) → number < product counts
+    → i < length counts → get_or (get_or (all_choices counts) number []) i 0
+    ≡ number / get_or (strides_of counts) i 0 % get_or counts i 0 + 1
+choice_by_stride (n ∷ counts) number zero less within =
+    let parts = positive_parts n (product counts) number less in
+    let below : number / product counts < n = (div-lt_iff_lt-mul parts.1).1 less in
+    grind (arith, choices_next, mod-eq_of_lt)
+choice_by_stride (n ∷ counts) number (suc i) less within =
+    let p = product counts in
+    let parts = positive_parts n p number less in
+    let there : i < length counts = omega (arith, within) in
+    let divides = stride_divides counts i there in
+    let step = get_or (strides_of counts) i 0 in
+    let c = get_or counts i 0 in
+    let above : 0 < step =
+    (positive_parts step c 0 (pos_of_dvd_of_pos divides parts.1)).0 in
+    let later = choice_by_stride counts (number % p) i (mod-lt number parts.1) there in
+    let same = faster_part (number / p) p (number % p) step c above divides in
+    let whole : number / p * p + number % p ≡ number = omega (arith, mod-add-div number p) in
+    grind (arith, choices_next, rw whole at same)
+choice_by_stride [] number i less within = absurd (omega (arith, within))
 
 -- ---- a set among a player's
 
@@ -86,10 +197,11 @@ module _ (g : Game) (game : IsGame g) where
   products_for (player ∷ players) =
       λ i. sym (length-all_choices (action_counts g player)) i ∷ products_for players i
 
-  -- the digits of the sets of the first players have no more values than fit
-  pub first_fit : (c : Counts) → AreCounts g c → (i : ℕ) → i < length (actions_in c)
-      → width (get_or (actions_in c) i [] ++ in_order (take i (actions_in c))) < 2 ^ 64
-  first_fit c are i less =
+  -- there are few choices at the sets of the first players
+  pub first_few : (c : Counts) → AreCounts g c → (i : ℕ) → i < length (actions_in c)
+      → ArePositive (get_or (actions_in c) i [] ++ in_order (take i (actions_in c)))
+      × (product (get_or (actions_in c) i [] ++ in_order (take i (actions_in c))) < 2 ^ 32)
+  first_few c are i less =
       let first = take (i + 1) (players_of g) in
       let all = strategy_counts g in
       let inside : i < length all = grind (arith, as_many_players, are.actions) in
@@ -105,7 +217,7 @@ module _ (g : Game) (game : IsGame g) where
       let few : product (in_order (map (action_counts g) first)) < 2 ^ 32 =
       omega (arith, count, taken, length-profiles all, are.within) in
       rw (← player_order (actions_in c) i less, are.actions, take-map)
-      (width_fits (in_order (map (action_counts g) first)) (positive_for first) few)
+      (positive_for first, few)
 
 module _ (g : Game) (game : IsGame g) (d : Digits) (values : ℕ) where
   abbrev counted : List (List ℕ)
@@ -120,8 +232,13 @@ module _ (g : Game) (game : IsGame g) (d : Digits) (values : ℕ) where
   as_many_choices : product (map product counted) ≡ length (full_profiles g)
   as_many_choices = cc (products_for g game (players_of g), length-profiles (strategy_counts g))
 
-  module _ (digits : AreDigitsOf sets d.digits.items values) (made : AreStepsOf counted steps)
-      (number : ℕ) (less : number < length (full_profiles g)) where
+  abbrev strides : List (List ℕ)
+  strides = map (λ own. own.items) d.strides.items
+
+  module _ (digits : AreDigitsOf sets d.digits.items values)
+      (made : AreMadeOf (steps_after 1) counted steps)
+      (strided : AreMadeOf strides_of counted strides) (number : ℕ)
+      (less : number < length (full_profiles g)) where
     abbrev profile : List (List ℕ)
     profile = strategies_at g (get_or (full_profiles g) number [])
 
@@ -141,10 +258,11 @@ module _ (g : Game) (game : IsGame g) (d : Digits) (values : ℕ) where
     choices_are = grind (arith, picked_at, positive_for g game, below, chosen, product_in_order)
 
     -- a player's set: its place among those of all
-    his : (key : SetKey) (set : InformationSet) → set_at g key ≡ Some set → 0 < key.player
-        → ArePlaced (steps_after 1 sets) sets (in_order profile) (choices_by g steps key)
+    his : (made : List ℕ → List ℕ) (all : List (List ℕ)) → AreMadeOf made counted all
+        → (key : SetKey) (set : InformationSet) → set_at g key ≡ Some set → 0 < key.player
+        → ArePlaced (made sets) sets (in_order profile) (choices_by g all key)
         (length set.actions) (choices_by g profile key)
-    his key set is above =
+    his made all are key set is above =
         let known = set_is g game key set is in
         let keys = player_keys g key.player in
         let here = among_own g key.player key set refl is in
@@ -154,11 +272,11 @@ module _ (g : Game) (game : IsGame g) (d : Digits) (values : ℕ) where
         (strategy_before all key.player above)
         ∙ said_there keys (get_or all i []) here.place key (keys_distinct g game key.player)
         here.there) in
-        rw made.each at (among_all steps counted profile i (choices_by g steps key)
-        (length set.actions) (choices_by g profile key) made.as_many chosen.0 (record {
+        rw are.each at (among_all all counted profile i (choices_by g all key)
+        (length set.actions) (choices_by g profile key) are.as_many chosen.0 (record {
           place = here.place;
           within = rw (own, length-map) here.within;
-          step_is = said steps;
+          step_is = said all;
           count_is = rw own here.count;
           choice_is = said profile;
         }))
@@ -174,81 +292,23 @@ module _ (g : Game) (game : IsGame g) (d : Digits) (values : ℕ) where
         (λ key set is personal. have_actions g game profile
         (profile_strategies g (get_or all number []) (number, less, there)) key set is
         (grind (arith, eq-eqb)))
-        (λ key set is personal. his key set is (grind (arith, eq-eqb))))
+        (λ key set is personal. his (steps_after 1) steps made key set is
+        (grind (arith, eq-eqb))))
 
-  pub has_digits : AreDigitsOf sets d.digits.items values → AreStepsOf counted steps
-      → d.profiles ≡ length (full_profiles g) → HasDigits g d
-  has_digits digits made many = record {
+    in_stride : (key : SetKey) (set : InformationSet) → set_at g key ≡ Some set → 0 < key.player
+        → choices_by g profile key ≡ number / choices_by g strides key % length set.actions + 1
+    in_stride key set is above =
+        let at = his strides_of strides strided key set is above in
+        let choice = choice_by_stride sets number at.place
+        (omega (arith, less, as_many_choices, product_in_order counted)) at.within in
+        cc (at.step_is, at.count_is, at.choice_is, chosen.1, choice)
+
+  pub has_digits : AreDigitsOf sets d.digits.items values → AreMadeOf (steps_after 1) counted steps
+      → AreMadeOf strides_of counted strides → HasDigits g d
+  has_digits digits made strided = record {
     steps = grind arith;
     within = grind arith;
-    profiles = many;
     as_many = grind (arith, product_picked, product_in_order, positive_for g game, as_many_choices);
-    choices = λ number less. digits_are digits made number less;
+    choices = λ number less. digits_are digits made strided number less;
+    strides = λ number less. in_stride digits made strided number less;
   }
-
--- ---- the demands of a profile
-
-abbrev pub digit_at : List Digit → ℕ → Digit
-digit_at digits i = get_or digits i (record { step = 0; actions = 0 })
-
--- one digit more, from the slowest on
-pub digit_on : (g : Game) (d : Digits) (items : List Digit) (number i stride rest demands : ℕ)
-    → HasDigits g d → number < length (full_profiles g) → items ≡ d.digits.items
-    → i < length items → Demands (digit_actions d) number i stride rest demands
-    → (0 < (digit_at items i).actions) × (0 < stride / (digit_at items i).actions)
-    × (demands + (rest / (stride / (digit_at items i).actions) + 1) * (digit_at items i).step
-    < 2 ^ 64)
-    × Demands (digit_actions d) number (i + 1) (stride / (digit_at items i).actions)
-    (rest % (stride / (digit_at items i).actions))
-    (demands + (rest / (stride / (digit_at items i).actions) + 1) * (digit_at items i).step)
-digit_on g d items number i stride rest demands h less are there so =
-    let actions = digit_actions d in
-    let digit = digit_at items i in
-    let inside : i < length actions = grind (arith, are, length-map) in
-    let count : digit.actions ≡ get_or actions i 0 =
-    sym (get_or-map (λ (d : Digit). d.actions) items i (digit_at [] 0) 0 there)
-    ∙ ap (λ (items : List Digit). get_or (map (λ d. d.actions) items) i 0) are in
-    let step : digit.step ≡ get_or (steps_of actions) i 0 =
-    sym (get_or-map (λ (d : Digit). d.step) items i (digit_at [] 0) 0 there)
-    ∙ ap (λ (items : List Digit). get_or (map (λ d. d.step) items) i 0) are
-    ∙ ap (λ (steps : List ℕ). get_or steps i 0) h.steps in
-    let next = demands_on actions number i stride rest demands digit.actions digit.step so inside
-    count step in
-    let fit = demands_fit actions number (i + 1) (stride / digit.actions)
-    (rest % (stride / digit.actions)) (demands + (rest / (stride / digit.actions) + 1) * digit.step)
-    (omega (arith, less, h.as_many)) next in
-    let left : 0 < stride / digit.actions = omega (arith, next.below) in
-    (grind (arith, div-zero, left), left, omega (arith, fit, h.within), next)
-
--- ---- what is chosen at a profile
-
-module _ (g : Game) (d : Digits) (number : ℕ) (digits : HasDigits g d)
-    (less : number < length (full_profiles g)) (key : SetKey) (set : InformationSet)
-    (there : set_at g key ≡ Some set) (personal : ¬ (key.player ≡ 0)) where
-  abbrev step : ℕ
-  step = choices_by g (map (λ own. own.items) d.steps.items) key
-
-  abbrev choice : ℕ
-  choice = choices_by g (strategies_at g (get_or (full_profiles g) number [])) key
-
-  his_own : is_personal key ≡ true
-  his_own = grind (arith, false_from_ne_true, eq-eqb)
-
-  pub alone_chosen : step ≡ 0 → 1 ≡ choice
-  alone_chosen none =
-      let all = digits.choices number less in
-      omega (arith, all.alone key set there his_own none, all.chosen key set there his_own)
-
-  pub digit_chosen : ¬ (step ≡ 0) → demanded (pack (digit_actions d)
-      (get_or (all_choices (digit_actions d)) number [])) step (length set.actions) ≡ choice
-  digit_chosen some =
-      let at = (digits.choices number less).several key set there his_own some in
-      let within = chosen_within (digit_actions d) _
-      (choice_at_number (digit_actions d) number (omega (arith, less, digits.as_many))) in
-      cc (
-        at.step_is,
-        at.count_is,
-        at.choice_is,
-        digit_is (digit_actions d) _ at.place within
-            at.within,
-      )

@@ -1,18 +1,17 @@
--- Two ranges of terms while they are merged by the code.
+-- Two ranges of terms while they are merged by the code, and terms that are appended in turn.
 use Rattle.gf_form.proofs.Common
-use Common.{IsNonDecreasingBy-push, get_or-append_seam, mul-le-mul_right, take-append-drop, term_at}
+use Common.{IsNonDecreasingBy-push, get_or-append_seam, mul-le-mul_right, take-append-drop, add-one}
 use Common.{AllByRecursion, get_or_default, length-take-le, length-append, get_or-take, length-drop}
-use Common.{length-take, ComeAsWell, AreOrdered, append-nil, AreMerged, EndsBelow, drop-cons, Terms}
-use Common.{drop-drop, AreChosen, all_terms, AreAlike, IsShaped, no_term, add-one, lowered, length}
-use Common.{get_or, HasSum, Chosen, arith, subst, refl, Term, List, ◌++◌, take, drop, part, ◌≡◌, []}
-use Common.{◌<◌, ◌≤◌, ◌∷◌, map, sym, ◌∙◌, ◌+◌, ◌-◌, ◌*◌, ap, ℕ}
-use Rattle.std.proofs.lemmas.List.{take_rest, get_or-drop}
+use Common.{length-take, AreOrdered, ComeAsWell, append-nil, map-append, AreChosen, AreMerged, List}
+use Common.{EndsBelow, all_terms, drop-cons, drop-drop, AreAlike, IsShaped, lowered, no_term, Terms}
+use Common.{term_at, Chosen, HasSum, get_or, length, arith, subst, Term, drop, part, refl, take, []}
+use Common.{◌++◌, map, sym, ◌*◌, ◌+◌, ◌-◌, ◌<◌, ◌∙◌, ◌∷◌, ◌≡◌, ◌≤◌, ap, ℕ}
+use Rattle.std.proofs.lemmas.List.{take_rest, get_or-drop, append_assoc, take_more}
 use Rattle.std.proofs.lemmas.List.Sorted.{IsNonDecreasingBy-short}
 use Rattle.gf_form.specs.inner.rows.TermLists.{AreInOrder, CountsBelow, MayCome}
-use Rattle.gf_form.proofs.lemmas.rows.FlatRows.{demands_more, terms_count, there}
-use Rattle.gf_form.proofs.lemmas.rows.MergedTerms.{IsFree, IsOther, IsOwn, Merging}
-use Rattle.gf_form.proofs.lemmas.rows.MergedTerms.{both_come, first_parts, same_come, take_next}
-use Rattle.gf_form.proofs.lemmas.rows.ItemRows.{all_by_place}
+use Rattle.gf_form.proofs.lemmas.rows.FlatRows.{demands_more, terms_count, there, all_by_place}
+use Rattle.gf_form.proofs.lemmas.rows.MergedTerms.{IsFree, IsOther, IsOwn, Merging, both_come}
+use Rattle.gf_form.proofs.lemmas.rows.MergedTerms.{first_parts, same_come, take_next}
 
 -- ---- ranges of a list
 
@@ -92,11 +91,7 @@ module _ (from : Terms) (step action : ℕ) (some : 1 ≤ action) (chosen : Chos
 
 pub none_ordered : (t : Terms) → all_terms t ≡ [] → AreOrdered t
     × ((n : ℕ) → EndsBelow t.demands.items n)
-none_ordered t none =
-    let length_is : length t.demands.items ≡ 0 = sym (terms_count t) ∙ ap length none in (
-      IsNonDecreasingBy-short (λ (d : ℕ). d) t.demands.items (omega (arith, length_is)),
-      λ n d some. absurd (omega (arith, length_is, some)),
-    )
+none_ordered t none = grind (arith, terms_count, IsNonDecreasingBy-short)
 
 module _ (to after : Terms) (e : Term) (is : all_terms after ≡ all_terms to ++ e ∷ []) where
   pub below_more : (n : ℕ) → e.head.demands ≤ n → EndsBelow after.demands.items n
@@ -114,11 +109,7 @@ module _ (to after : Terms) (e : Term) (is : all_terms after ≡ all_terms to ++
   pub waits : {from : Terms} {less next end : ℕ} → MayCome from to less next end
       → (next < end → e.head.demands ≤ (term_at from next).head.demands - less)
       → MayCome from after less next end
-  waits {from} {less} {next} may le = record {
-    rises = λ more. below_more ((term_at from next).head.demands - less) (le more);
-    least = may.least;
-    within = may.within;
-  }
+  waits {from} {less} {next} may le = grind (arith, below_more, least)
 
 pub lowered_none : (e : Term) → lowered 0 e ≡ e
 lowered_none e = grind arith
@@ -126,13 +117,7 @@ lowered_none e = grind arith
 -- the first of these came, or is left out
 pub skips : {from to : Terms} {less next end : ℕ} → AreOrdered from → MayCome from to less next end
     → next < end → MayCome from to less (next + 1) end
-skips {from} {to} {less} {next} sorted may here = record {
-  rises = λ more e some.
-      let le = sorted next (next + 1) 0 (omega arith) (omega (arith, more, may.within)) in
-      let up = may.rises here e some in omega (arith, le, up);
-  least = λ k at. may.least k (omega (arith, at));
-  within = may.within;
-}
+skips {from} {to} {less} {next} sorted may here = grind (arith, least)
 
 -- ---- while they are merged
 
@@ -248,3 +233,44 @@ module _ {from : Terms} {step action lowest free_end own_end free own : ℕ} {to
       ≡ all_terms to ++ map (lowered lowest) (part own own_end (all_terms from))
       → AreMerged step action (all_terms from) (all_terms after)
   owns_left past is = rw (part_past (all_terms from) free free_end past, sym is) at done.merging
+
+-- ---- terms of a list that are appended to another one in turn
+
+-- these were appended, each changed by this
+pub record Pushing (f : Term → Term) (done : List Term) (old to : Terms) : Type 0 where
+  pub is : all_terms to ≡ all_terms old ++ map f done
+  pub alike : AreAlike to old
+  pub order : AreInOrder to
+
+pub more_pushing : (f : Term → Term) (done next : List Term) (e : Term) (old to after : Terms)
+    → next ≡ done ++ e ∷ [] → Pushing f done old to → all_terms after ≡ all_terms to ++ f e ∷ []
+    → AreAlike after to → IsShaped after → EndsBelow to.demands.items (f e).head.demands
+    → Pushing f next old after
+more_pushing f done next e old to after next_is before is alike shaped ends = record {
+  is = cc (
+    is,
+    before.is,
+    next_is,
+    map-append f done (e ∷ []),
+    append_assoc (all_terms old) (map f done) (f e ∷ []),
+  );
+  alike = (alike.0 ∙ before.alike.0, alike.1 ∙ before.alike.1);
+  order = (shaped, ordered_more to after (f e) is before.order.1 ends);
+}
+
+pub part_more : (from : Terms) (start i : ℕ) → start ≤ i → i < length from.demands.items
+    → part start (i + 1) (all_terms from)
+    ≡ part start i (all_terms from) ++ term_at from i ∷ []
+part_more from start i le less =
+    let es = all_terms from in
+    let next : i + 1 - start ≡ i - start + 1 = omega (arith, le) in
+    let on : start + (i - start) ≡ i = omega (arith, le) in
+    let within : i - start < length (drop start es) =
+    omega (arith, length-drop start es, le, less, terms_count from) in
+    cc (
+      next,
+      on,
+      take_more (drop start es) (i - start) no_term within,
+      get_or-drop start es (i - start) no_term,
+      there from i less,
+    )

@@ -1,27 +1,142 @@
--- Rows at the fastest digit, as what at most two terms come to.
+-- What is left of terms once an action is chosen, and the profiles that it settles; the rows at the
+-- fastest digit, as what at most two terms come to.
 use Rattle.gf_form.proofs.Common
-use Common.{asked_profiles, full_profiles, strategies_at, one_fraction, ArePayoffsAt, first_terms}
-use Common.{IsSpellable, all_choices, IsFraction, choices_by, HasPairRow, IsPaidPair, AreWritten, ℕ}
-use Common.{zero_ratio, HasValues, AreChosen, SettlesAt, all_terms, steps_of, at_place, all_both, ℤ}
-use Common.{IsScale, term_at, lowered, Settles, get_or, length, IsGame, Chosen, arith, Ratio, meets}
-use Common.{value, Scale, Terms, Asked, Term, List, ◌++◌, Some, lit<, true, Game, part, ints, ◌+ℤ◌}
-use Common.{IfSome}
-use Common.{◌*ℤ◌, zero, ◌≡◌, suc, ◌+◌, ◌-◌, ◌*◌, ◌<◌, ◌≤◌, ◌^◌, ◌∷◌, map, ◌∙◌, pos, []}
+use Common.{mul-le-mul_right, asked_profiles, mul-div_cancel, full_profiles, strategies_at, IsScale}
+use Common.{ArePayoffsAt, one_fraction, IsSpellable, all_choices, first_terms, AreWritten, all_both}
+use Common.{HasPairRow, IsFraction, IsPaidPair, actions_at, choices_by, zero_ratio, AreChosen, Game}
+use Common.{AreMerged, HasValues, SettlesAt, all_terms, at_place, cases_lt, steps_of, Settles, List}
+use Common.{lowered, product, term_at, Chosen, IfSome, IsGame, get_or, length, Asked, Digit, Ratio}
+use Common.{Scale, Terms, arith, meets, spans, value, Some, Term, ints, lit<, part, true, zero, Run}
+use Common.{◌*ℤ◌, ◌++◌, ◌+ℤ◌, inl, inr, map, pos, suc, ◌*◌, ◌+◌, ◌-◌, ◌/◌, ◌<◌, ◌^◌, ◌∙◌, ◌∷◌, ◌≡◌}
+use Common.{◌≤◌, ◌⊎◌, [], ap, ℕ, ℤ}
+use Rattle.gf_form.specs.inner.rows.GameDigits.{HaveSteps}
+use Rattle.gf_form.specs.inner.rows.SettledRows.{AreTermsFor, SettleBy}
+use Rattle.gf_form.proofs.lemmas.strategies.StrategiesByNumber.{choices_row, positive_parts}
+use Rattle.gf_form.proofs.lemmas.form.Forms.{all_more, one_row_more}
 use Rattle.gf_form.specs.declared.rows.written.Written.{Written}
 use Rattle.gf_form.specs.inner.rows.Pairs.{ComeToPair, IsOnly, IsPair, only_term}
-use Rattle.gf_form.proofs.lemmas.rows.SettledRows.{settled_left}
 use Rattle.gf_form.specs.declared.rows.pairs.Only.{Only}
 use Rattle.gf_form.specs.declared.rows.pairs.Pair.{Pair}
-use Rattle.gf_form.proofs.lemmas.rows.DemandDigits.{spans_above}
-use Rattle.gf_form.proofs.lemmas.rows.FlatRows.{terms_count, there}
+use Rattle.gf_form.proofs.lemmas.rows.Digits.{spans_above}
+use Rattle.gf_form.proofs.lemmas.rows.FlatRows.{terms_count, there, all_by_place}
 use Rattle.gf_form.proofs.lemmas.rows.MergedTerms.{sum_append}
 use Rattle.gf_form.proofs.lemmas.rows.Merges.{chosen_parts, part_next, part_past}
-use Rattle.gf_form.proofs.lemmas.rows.RowsMade.{all_more, one_row_more}
 use Rattle.gf_form.proofs.lemmas.strategies.PickedProfiles.{numbered_at}
-use Rattle.gf_form.proofs.lemmas.strategies.StrategiesByNumber.{choices_row}
 use Rattle.gf_form.proofs.lemmas.values.BottomUp.{are_payoffs, have_values}
-use Rattle.gf_form.proofs.lemmas.rows.ItemRows.{all_by_place}
 use Rattle.gf_form.specs.inner.values.NodeLists.{AreNodesOf}
+
+-- ---- profiles at which the choice at the slowest digit is the same
+
+-- the choice of a number, from 0, at the slowest digit of this many actions, and the first number
+-- with it
+pub record IsChoiceOf (n count number before first : ℕ) : Type 0 where
+  pub less : before < n
+  pub from : first ≤ number
+  pub to : number - first < count
+
+pub choice_of : (n count least number : ℕ) → least ≤ number → number - least < n * count
+    → (0 < count) × IsChoiceOf n count number ((number - least) / count)
+    (least + (number - least) / count * count)
+choice_of n count least number from to = grind arith
+
+pub settled_left : (g : Game) (number step action : ℕ) (steps choices : List ℕ)
+    (es left : List Term) → AreMerged step action es left
+    → Settles g number (step ∷ steps) (action ∷ choices) es → Settles g number steps choices left
+settled_left g number step action steps choices es left merged settles k less den above within exact
+    small = grind arith
+
+settled_after : (g : Game) (n : ℕ) (ns : List ℕ) (terms left : Terms)
+    (least number b first : ℕ) → SettlesAt g (n ∷ ns) terms least number → b < n
+    → first ≡ least + b * product ns → first ≤ number → number - first < product ns
+    → AreMerged (product (spans ns)) (b + 1) (all_terms terms) (all_terms left)
+    → SettlesAt g ns left first number
+settled_after g n ns terms left least number b first before less is from to merged = record {
+  from = from;
+  to = to;
+  settles =
+      let r = number - first in
+      let whole : number - least ≡ b * product ns + r = omega (arith, is, from, before.from) in
+      let choices : get_or (all_choices (n ∷ ns)) (number - least) []
+      ≡ (b + 1) ∷ get_or (all_choices ns) r [] = cc (choices_row n ns b r less to) in
+      settled_left g number (product (spans ns)) (b + 1) (steps_of ns)
+      (get_or (all_choices ns) r []) (all_terms terms) (all_terms left) merged
+      (rw choices at before.settles);
+}
+
+-- a digit, and the faster ones
+pub first_step : (slowest : Digit) (faster : List Digit) → HaveSteps (slowest ∷ faster)
+    → (slowest.step ≡ product (spans (actions_at faster))) × HaveSteps faster
+first_step slowest faster have =
+    let is : slowest.step ∷ map (λ (d : Digit). d.step) faster
+    ≡ product (spans (actions_at faster)) ∷ steps_of (actions_at faster) = have in (cc, cc)
+
+pub faster_within : (slowest : Digit) (faster : List Digit)
+    → product (spans (actions_at (slowest ∷ faster))) < 2 ^ 64
+    → product (spans (actions_at faster)) < 2 ^ 64
+faster_within slowest faster within = grind (arith, mul-le-mul_right)
+
+-- the same from a later profile on
+pub settled_from : (asked : Asked) (terms : Terms) (digits : List Digit) (run rest : Run)
+    → rest.first ≡ run.first → rest.count ≡ run.count → run.from ≤ rest.from → rest.to ≡ run.to
+    → SettleBy asked terms digits run → SettleBy asked terms digits rest
+settled_from asked terms digits run rest first count from to by = grind arith
+
+-- the first of these profiles, and those with the same choice at the slowest digit
+module _ (asked : Asked) {slowest : Digit} {faster : List Digit} {terms : Terms} (run : Run)
+    (some : run.from < run.to) (by : SettleBy asked terms (slowest ∷ faster) run) {stride : ℕ}
+    (stride_is : stride ≡ run.count / slowest.actions)
+  where
+    abbrev number : ℕ → ℕ
+    number i = get_or asked.numbers.now i 0
+
+    abbrev ns : List ℕ
+    ns = actions_at faster
+
+    here : SettlesAt asked.game.now (slowest.actions ∷ ns) terms run.first (number run.from)
+    here = by.settles run.from (omega arith) some
+
+    stride_product : stride ≡ product ns
+    stride_product = grind (arith, positive_parts, here, mul-div_cancel)
+
+    pub some_stride : 0 < stride
+    some_stride = grind (arith, positive_parts, stride_product)
+
+    module _ {before : ℕ} (before_is : before ≡ (number run.from - run.first) / stride) where
+      abbrev first : ℕ
+      first = run.first + before * stride
+
+      choice : IsChoiceOf slowest.actions stride (number run.from) before first
+      choice = grind (arith, stride_product, choice_of)
+
+      pub step_within : (before + 1) * slowest.step + slowest.step < 2 ^ 64
+      step_within = grind (arith, choice, mul-le-mul_right, first_step)
+
+      pub settled_next : (to : ℕ) (left : Terms)
+          → AreMerged slowest.step (before + 1) (all_terms terms) (all_terms left)
+          → AreTermsFor asked left → to ≤ run.to
+          → ((i : ℕ) → run.from + 1 ≤ i → i < to
+          → (first ≤ number i) × (number i < first + stride))
+          → SettleBy asked left faster
+          (record { first = first; count = stride; from = run.from; to = to })
+      settled_next to left merged terms_are most alike =
+          let step = first_step slowest faster by.steps in record {
+            are_terms = terms_are;
+            steps = step.1;
+            within = faster_within slowest faster by.within;
+            count = stride_product;
+            settles = λ i more less.
+                let range = at i more less (cases_lt run.from i) in
+                settled_after asked.game.now slowest.actions ns terms left run.first (number i)
+                before first (by.settles i more (omega (arith, less, most))) choice.less
+                (ap (λ (s : ℕ). run.first + before * s) stride_product) range.0
+                (omega (arith, range.0, range.1, stride_product))
+                (rw step.0 at merged);
+          }
+        where
+          at : (i : ℕ) → run.from ≤ i → i < to → (run.from < i) ⊎ (i ≤ run.from)
+              → (first ≤ number i) × (number i < first + stride)
+          at i more less (inl h) = alike i (omega (arith, h)) less
+          at i more less (inr h) = grind (arith, choice)
 
 -- ---- one term, or none
 
@@ -46,8 +161,6 @@ pub come_to_pair : (frees owns : List Term) (first second : Only) (s : Scale)
     → ComeToPair [] [] (map (lowered 0) frees ++ map (lowered less) owns)
     (record { scale = s; first = first.numbers; second = second.numbers })
 come_to_pair frees owns first second s only_first only_second is above within small less =
-    let a = only_first s.den 0 is.first.above is.first.divides in
-    let b = only_second s.den less is.second.above is.second.divides in
     grind (arith, sum_append, all_both, scaled_both)
 
 -- ---- what is paid

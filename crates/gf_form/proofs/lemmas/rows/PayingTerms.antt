@@ -1,17 +1,27 @@
--- Terms that fit together over one denominator, and those of them that add something.
+-- Terms that fit together over one denominator, and those of them that add something. The rows of a
+-- game's profiles, by its terms.
 use Rattle.gf_form.proofs.Common
-use Common.{*ℤ-cancel_right, AllByRecursion, div-mul_cancel, if◌then◌else◌, sum_of_terms, all_parts}
-use Common.{unsigned_abs, first_terms, AreExactAt, AreOrdered, number_at, SettlesAt, all_terms, ◌≡◌}
-use Common.{dvd_refl, all_both, *ℤ_assoc, AreAlike, IsShaped, term_at, zero-*ℤ, lowered, add-one, ℕ}
-use Common.{length, add-*ℤ, Global, arith, meets, Terms, subst, Term, refl, Game, ints, ◌+ℤ◌, ◌*ℤ◌}
-use Common.{Bool, true, List, ◌++◌, zero, pos, ◌+◌, ◌*◌, ◌/◌, ◌<◌, ◌≤◌, ◌^◌, ◌∷◌, sym, ◌∙◌, ◌∣◌, []}
-use Common.{suc, Vec, ap, ℤ}
-use Rattle.gf_fraction.proofs.Integers.{*ℤ_right_comm}
+use Common.{AreProfileNumbers, *ℤ-cancel_right, AllByRecursion, div-mul_cancel, digit_actions, Bool}
+use Common.{full_profiles, if◌then◌else◌, strategies_at, paid_reached, sum_of_terms, unsigned_abs}
+use Common.{IsSpellable, all_choices, first_terms, AreExactAt, AreOrdered, AreTermsOf, ComeAsWell}
+use Common.{choices_by, node_terms, zero_ratio, HasDigits, SettlesAt, all_parts, all_terms, ArePaid}
+use Common.{number_at, root_path, *ℤ_assoc, AreAlike, IsShaped, all_both, dvd_refl, steps_of, Ratio}
+use Common.{Settles, add-one, is_paid, lowered, one-dvd, reached, term_at, term_of, zero-*ℤ, Digits}
+use Common.{Global, IsGame, add-*ℤ, get_or, length, pay_at, row_at, Terms, arith, false, meets, Vec}
+use Common.{subst, Game, List, Path, Term, ints, refl, true, zero, ◌*ℤ◌, ◌++◌, ◌+ℤ◌, map, pos, suc}
+use Common.{sym, ◌*◌, ◌+◌, ◌-◌, ◌/◌, ◌<◌, ◌^◌, ◌∙◌, ◌∣◌, ◌∷◌, ◌≡◌, ◌≤◌, [], ap, ℕ, ℤ}
+use Rattle.gf_fraction.proofs.Offered.{*ℤ_right_comm}
+use Rattle.std.proofs.Math.Nat.{div_self}
 use Rattle.gf_form.specs.inner.rows.Paying.{FitOver, IsOver, Kept, SettleAsWell, sizes_of}
 use Rattle.gf_form.specs.inner.rows.TermLists.{AreInOrder, MayCome}
-use Rattle.gf_form.proofs.lemmas.rows.FlatRows.{itself, terms_count}
-use Rattle.gf_form.proofs.lemmas.rows.MergedTerms.{none_first, sum_append}
+use Rattle.gf_form.proofs.lemmas.rows.FlatRows.{terms_count}
+use Rattle.gf_form.proofs.lemmas.rows.MergedTerms.{none_first, sum_append, come_both, same_come}
 use Rattle.gf_form.proofs.lemmas.rows.Merges.{lowered_none, ordered_more, skips, waits}
+use Rattle.gf_form.proofs.lemmas.strategies.StrategiesByNumber.{all_at}
+use Rattle.gf_form.proofs.lemmas.values.ValuesComputed.{empty_row}
+use Rattle.gf_form.proofs.lemmas.rows.ListedTerms.{no_number, terms_of_sums}
+use Rattle.std.specs.List.{filter}
+use Rattle.gf_form.proofs.lemmas.rows.ReachedValues.{reached_value}
 
 -- ---- all over one denominator
 
@@ -28,7 +38,7 @@ module _ (den : ℕ) (above : 0 < den) (steps choices : List ℕ) where
   sizes_met : (es : List Term) → AllByRecursion (IsOver den) es
       → unsigned_abs (sum_of_terms 0 den steps choices es) ≤ sizes_of es
   sizes_met [] all = omega arith
-  sizes_met (e ∷ es) all = rw (all.0, itself den above)
+  sizes_met (e ∷ es) all = rw (all.0, div_self above)
       (chosen (meets steps choices e.head.demands) e.head.size _ _ (sizes_met es all.1))
 
 -- ---- over a multiple of the denominator
@@ -38,7 +48,7 @@ module _ (k den most : ℕ) (above : 0 < den) (steps choices : List ℕ) where
       → (z *ℤ pos (most / d)) *ℤ pos den ≡ (z *ℤ pos (den / d)) *ℤ pos most
   over_most z d same divides =
       let own : most / d * den ≡ most = rw (sym same) (div-mul_cancel d divides) in
-      let one : den / d ≡ 1 = rw same (itself den above) in
+      let one : den / d ≡ 1 = rw same (div_self above) in
       let once : 1 * most ≡ most = omega arith in
       cc (*ℤ_assoc z (pos (most / d)) (pos den), *ℤ_assoc z (pos (den / d)) (pos most))
 
@@ -202,3 +212,59 @@ pub settled_at : (g : Game) (actions : List ℕ) (from left : Terms) (least numb
     → SettleAsWell from left → SettlesAt g actions from least number
     → SettlesAt g actions left least number
 settled_at g actions from left least number as_well before = grind arith
+
+-- ---- the nodes that pay somebody something have all shares
+
+nothing_comes : (path : Path) (pay : Ratio) → pay ≡ zero_ratio
+    → ComeAsWell (term_of path pay ∷ []) []
+nothing_comes path pay nothing = rw nothing (λ den steps choices _. record {
+  exact = ((λ _. (omega arith, one-dvd den)), tt);
+  sums = λ n. none_first n den steps choices (term_of path zero_ratio) []
+      (no_number path zero_ratio n refl);
+})
+
+module _ (g : Game) (rows : List (List Ratio)) (are : ArePaid g rows) (k : ℕ) where
+  abbrev terms : List Path → List Term
+  terms rs = node_terms g (suc k) rs
+
+  kept_come : (rs : List Path) → ComeAsWell (terms rs) (terms (filter (is_paid rows) rs))
+  kept_come [] = same_come []
+  kept_come (r ∷ rs) = by (is_paid rows r) refl (kept_come rs)
+    where
+      fs : List Path
+      fs = filter (is_paid rows) rs
+
+      by : (b : Bool) → is_paid rows r ≡ b → ComeAsWell (terms rs) (terms fs)
+          → ComeAsWell (terms (r ∷ rs)) (terms (if b then r ∷ fs else fs))
+      by true is = come_both (terms (r ∷ [])) _ (terms rs) (terms fs) (same_come (terms (r ∷ [])))
+      by false is = come_both (terms (r ∷ [])) [] (terms rs) (terms fs)
+          (nothing_comes r (pay_at g (suc k) r)
+          (sym (are.paid_is r.outcome k) ∙ empty_row (row_at rows r.outcome) (grind arith) k))
+
+-- ---- what the terms settle
+
+module _ (g : Game) (game : IsGame g) (spellable : IsSpellable g) (rows : List (List Ratio))
+    (paid : ArePaid g rows) (numbers : List ℕ) (full : AreProfileNumbers g numbers) (d : Digits)
+    (digits : HasDigits g d) (terms : Terms)
+    (told : AreTermsOf g (length g.players) (paid_reached rows g
+    (choices_by g (map (λ own. own.items) d.steps.items))) (all_terms terms)) where
+  settled : (number : ℕ) → number < length (full_profiles g)
+      → Settles g number (steps_of (digit_actions d))
+      (get_or (all_choices (digit_actions d)) number []) (all_terms terms)
+  settled number below k less den above within exact small =
+      let actions = digit_actions d in
+      let choices = get_or (all_choices actions) number [] in
+      let steps = choices_by g (map (λ own. own.items) d.steps.items) in
+      let h = terms_of_sums g (length g.players) (reached g steps root_path g.tree)
+      (paid_reached rows g steps) (all_terms terms) (λ k. kept_come g rows paid k _) told k less den
+      (steps_of actions) choices exact in
+      let v = reached_value g game spellable steps
+      (choices_by g (strategies_at g (get_or (full_profiles g) number []))) actions choices
+      (digits.choices number below) (suc k) den (grind arith) in grind arith
+
+  pub settle_all : (i : ℕ) → i < length numbers
+      → SettlesAt g (digit_actions d) terms 0 (get_or numbers i 0)
+  settle_all i less =
+      let number = get_or numbers i 0 in
+      let below = all_at (λ number. number < length (full_profiles g)) numbers i 0 full less in
+      let same : number ≡ number - 0 = omega arith in grind (arith, settled)

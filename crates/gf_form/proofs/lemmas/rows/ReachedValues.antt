@@ -1,32 +1,280 @@
--- The value of a tree is the sum of the shares of the nodes that choices reach.
+-- A value over the common denominator, with the shares that it is the sum of: of a payoff, of a sum
+-- and of a multiple. The value of a tree is the sum of the shares of the nodes that choices reach.
 use Rattle.gf_form.proofs.Common
-use Common.{false_from_ne_true, AllByRecursion, InformationSet, if◌then◌else◌, sum_of_shares, value}
-use Common.{paid_at_node, chance_value, append_assoc, path_handing, sum_of_terms, flatten_all, ◌==◌}
-use Common.{HasChildren, IsSpellable, child_value, is_personal, descent_all, IsFraction, zero_ratio}
-use Common.{chances_at, value_over, append-nil, node_terms, AreExactAt, map-append, is_sum_at, zero}
-use Common.{root_path, AreDigits, eqb-false, by_chance, all_parts, payoff_at, demanding, eqb-true}
-use Common.{HasValue, steps_of, followed, comes_by, choosing, Reached, flatten, reached, node_at, ℕ}
-use Common.{descent, path_to, Option, length, branch, SetKey, IsGame, set_at, FitsAt, eq-eqb, false}
-use Common.{ne_eqb, +ℤ_idl, subst, arith, Ratio, Trees, count, meets, Bool, true, List, ◌++◌, Some}
-use Common.{None, refl, Tree, none, more, Game, Node, Path, kept, Term, Stop, ◌≡◌, suc, ◌+◌, ◌/◌}
-use Common.{◌≤◌, ◌∷◌, sym, map, []}
+use Common.{false_from_ne_true, mul-le-mul_right, unsigned_abs-mul, AllByRecursion, InformationSet}
+use Common.{dvd-mul_right, if◌then◌else◌, sum_of_shares, append_assoc, chance_value, paid_at_node}
+use Common.{path_handing, sum_of_terms, unsigned_abs, HasChildren, IsSpellable, child_value, +ℤ_idl}
+use Common.{descent_all, flatten_all, is_personal, AreExactAt, IsFraction, append-nil, chances_at}
+use Common.{map-append, met_bounds, node_terms, product_of, value_over, zero_ratio, AreDigits, Bool}
+use Common.{IsExactAt, all_parts, by_chance, demanding, dvd_trans, eqb-false, is_sum_at, mul_above}
+use Common.{node_term, payoff_at, root_path, *ℤ_assoc, HasValue, IsWithin, choosing, comes_by, Game}
+use Common.{eqb-true, followed, steps_of, times_of, *ℤ-zero, *ℤ_comm, descent, flatten, node_at, []}
+use Common.{plus_of, reached, zero-*ℤ, FitsAt, IsGame, Option, SetKey, add-*ℤ, branch, eq-eqb, List}
+use Common.{length, ne_eqb, pay_at, set_at, sum_of, Ratio, Trees, arith, count, false, meets, subst}
+use Common.{value, Node, None, Path, Some, Stop, Term, Tree, ints, kept, more, none, refl, true, ap}
+use Common.{zero, ◌*ℤ◌, ◌++◌, ◌+ℤ◌, ◌==◌, inl, inr, map, pos, suc, sym, ◌*◌, ◌+◌, ◌/◌, ◌<◌, ◌^◌, ℕ}
+use Common.{◌∙◌, ◌∣◌, ◌∷◌, ◌≡◌, ◌≤◌, ◌⊎◌, ℤ}
+use Rattle.std.proofs.Math.IntN.{+ℤ_idr}
+use Rattle.std.proofs.Math.Nat.{eq-zero_of_zero-dvd, le-mul_of_pos_right}
+use Rattle.gf_form.specs.inner.rows.ReachedNodes.{has_room, demanding_path, drawn, met_if, is_sum}
+use Rattle.gf_form.proofs.lemmas.rows.MergedTerms.{quotient_of_product, quotient_above}
+use Rattle.gf_form.proofs.lemmas.rows.MergedTerms.{product_over, quotient_le, own_value, sum_over}
+use Rattle.gf_form.proofs.lemmas.rows.MergedTerms.{sum_size, none_first}
+use Rattle.gf_form.proofs.lemmas.rows.ListedTerms.{bounds_append, shares_append}
+use Rattle.gf_form.proofs.lemmas.values.ValuesComputed.{zero_fraction, none_times, times_zero}
+use Rattle.gf_form.proofs.lemmas.values.ValuesComputed.{plus_zero, zero_is, zero_plus}
+use Rattle.gf_form.proofs.lemmas.values.ValuesComputed.{probability_fraction, payoff_fraction}
+use Rattle.gf_form.proofs.lemmas.values.ValuesComputed.{chance_size}
 use Rattle.std.specs.Option.{option_map_or}
-use Rattle.gf_form.specs.inner.rows.ReachedNodes.{demanding_path, drawn, met_if, is_sum}
-use Rattle.gf_form.proofs.lemmas.values.Denominators.{probability_fraction, payoff_fraction}
-use Rattle.gf_form.proofs.lemmas.values.Denominators.{chance_size}
-use Rattle.gf_form.proofs.lemmas.rows.DemandDigits.{none_within, no_demands, none_pack, none_met}
-use Rattle.gf_form.proofs.lemmas.values.PaidRows.{paid_is}
-use Rattle.gf_form.proofs.lemmas.rows.MetNodes.{AreFreed, set_there, tree_kept}
-use Rattle.gf_form.proofs.lemmas.values.ValuesComputed.{zero_fraction}
-use Rattle.gf_form.proofs.lemmas.rows.ValuedNodes.{times_valued, zero_valued, none_shared, IsValued}
-use Rattle.gf_form.proofs.lemmas.rows.ValuedNodes.{leaf_valued, fits_parts, sum_valued, idle_move}
+use Rattle.gf_form.proofs.lemmas.rows.Digits.{none_within, no_demands, none_pack, none_met}
+use Rattle.gf_form.proofs.lemmas.values.Walks.{paid_is}
+use Rattle.gf_form.proofs.lemmas.rows.Descents.{AreFreed, set_there, tree_kept}
+
+-- ---- integers
+
+mul-plus : (a b c : ℤ) → a *ℤ (b +ℤ c) ≡ a *ℤ b +ℤ a *ℤ c
+mul-plus a b c = *ℤ_comm a (b +ℤ c) ∙ add-*ℤ b c a ∙ (λ i. *ℤ_comm b a i +ℤ *ℤ_comm c a i)
+
+-- a number whose size times another one is within bounds
+within_part : (z : ℤ) (b limit : ℕ) → 1 ≤ b → unsigned_abs z * b ≤ limit → limit < 2 ^ 127
+    → IsWithin z
+within_part z b limit some le h =
+    omega (arith, le, h, le-mul_of_pos_right (unsigned_abs z) some)
+
+sum_below : (x y : ℤ) (b : ℕ) → unsigned_abs (x +ℤ y) * b ≤ unsigned_abs x * b + unsigned_abs y * b
+sum_below x y b = omega (arith, mul-le-mul_right b (sum_size x y))
+
+-- ---- parts of the common denominator
+
+-- over what is left of the denominator after a path that has so much of it, or zero, which demands
+-- nothing of the denominators
+abbrev pub IsPart : ℕ → ℕ → Ratio → ℤ → Type 0
+IsPart den by r n = ((by ∣ den) × HasValue r n (den / by)) ⊎ ((r ≡ zero_ratio) × (n ≡ pos 0))
+
+module _ (den : ℕ) (den_above : 0 < den) (den_within : den < 2 ^ 127) (by : ℕ) where
+  left_within : by ∣ den → den / by < 2 ^ 127
+  left_within divides = omega (arith, den_within, quotient_le by den den_above divides)
+
+  sum_part : (x y : Ratio) (m n : ℤ) → IsFraction x → IsFraction y → IsPart den by x m
+      → IsPart den by y n → IsWithin m → IsWithin n → IsWithin (m +ℤ n)
+      → (r : Ratio) × (sum_of x y ≡ Some r) × IsFraction r × IsPart den by r (m +ℤ n)
+  sum_part x y m n fx fy (inl px) (inl py) hm hn hs =
+      let sum = sum_over x y m n (den / by) fx fy (quotient_above by den den_above px.0)
+      (left_within px.0) px.1 py.1 hm hn hs in
+      (sum.0, sum.1, sum.2, inl (px.0, sum.3))
+  sum_part x y m n fx fy (inr px) py hm hn hs = grind (arith, zero_plus)
+  sum_part x y m n fx fy (inl px) (inr py) hm hn hs = grind (arith, plus_zero, +ℤ_idr)
+
+  product_part : (p y : Ratio) (n : ℤ) → IsFraction p → IsFraction y
+      → IsPart den (by * p.den) y n → IsWithin (p.num *ℤ n)
+      → (r : Ratio) × (product_of p y ≡ Some r) × IsFraction r × IsPart den by r (p.num *ℤ n)
+  product_part p y n fp fy (inl py) hn =
+      let part : by ∣ den = dvd_trans by (dvd-mul_right by p.den) py.0 in
+      let product = product_over p y n (den / by) (den / (by * p.den)) fp fy
+      (quotient_of_product by p.den den den_above py.0) (quotient_above by den den_above part)
+      (left_within part) py.1 hn in
+      (product.0, product.1, product.2, inl (part, product.3))
+  product_part p y n fp fy (inr py) hn = grind (arith, times_zero, zero_fraction)
+
+-- ---- values
+
+module _ (g : Game) (player den : ℕ) where
+  abbrev shares : List Path → ℤ
+  shares rs = sum_of_shares g player den [] [] rs
+
+  abbrev bounds : List Path → ℕ
+  bounds rs = met_bounds g player den [] [] rs
+
+  -- The value is that of an amount over what is left of the denominator after a path with these
+  -- numbers; the shares of these nodes are the path's weight times the amount. On an idle path, any
+  -- amount will do.
+  pub record IsValuedBy (value : Option Ratio) (weight bound by : ℕ) (rs : List Path) : Type 0 where
+    pub ratio : Ratio
+    pub value_is : value ≡ Some ratio
+    pub fraction : IsFraction ratio
+    pub amount : ℤ
+    pub amount_is : 1 ≤ bound → IsPart den by ratio amount
+    pub shares_are : shares rs ≡ pos weight *ℤ amount
+    pub size : unsigned_abs amount * bound ≤ bounds rs
+
+  abbrev pub IsValued : Option Ratio → Path → List Path → Type 0
+  IsValued value path rs = IsValuedBy value path.weight path.bound path.den rs
+
+  abbrev Fits : List Path → Type 0
+  Fits rs = FitsAt g player den [] [] rs
+
+  pub fits_parts : (xs ys : List Path) → Fits (xs ++ ys) → Fits xs × Fits ys
+  fits_parts xs ys fits =
+      let exacts = all_parts (IsExactAt den [] []) (node_terms g player xs) (node_terms g player ys)
+      (rw map-append at fits.exact) in
+      grind (arith, bounds_append)
+
+  -- where nothing is added, the value counts for nothing, or is zero
+  pub zero_valued : {pay : Ratio} (path : Path) (rs : List Path) → IsFraction pay
+      → (1 ≤ path.bound → pay ≡ zero_ratio) → shares rs ≡ pos 0 → IsValued (Some pay) path rs
+  zero_valued {pay} path rs f unpaid nothing = record {
+    ratio = pay;
+    value_is = refl;
+    fraction = f;
+    amount = pos 0;
+    amount_is = λ some. inr (unpaid some, refl);
+    shares_are = nothing ∙ sym (*ℤ-zero (pos path.weight));
+    size = omega arith;
+  }
+
+  pub sum_valued : {a b : Option Ratio} {weight bound by : ℕ} (xs ys : List Path) → 1 ≤ bound
+      → Fits (xs ++ ys) → IsValuedBy a weight bound by xs → IsValuedBy b weight bound by ys
+      → IsValuedBy (plus_of a b) weight bound by (xs ++ ys)
+  sum_valued {weight = weight} {bound = bound} {by = by} xs ys some fits x y =
+      let both = sum_below x.amount y.amount bound in
+      let lists = bounds_append g player den [] [] xs ys in
+      let small = λ (z : ℤ) (le : unsigned_abs z * bound ≤ bounds (xs ++ ys)).
+      within_part z bound (bounds (xs ++ ys)) some le fits.within in
+      let sum = sum_part den fits.den_above_zero fits.den_within by x.ratio y.ratio x.amount
+      y.amount x.fraction y.fraction (x.amount_is some) (y.amount_is some)
+      (small x.amount (omega (arith, x.size, lists)))
+      (small y.amount (omega (arith, y.size, lists)))
+      (small (x.amount +ℤ y.amount) (omega (arith, x.size, y.size, both, lists))) in
+      record {
+        ratio = sum.0;
+        value_is = (λ i. plus_of (x.value_is i) (y.value_is i)) ∙ sum.1;
+        fraction = sum.2;
+        amount = x.amount +ℤ y.amount;
+        amount_is = λ some. sum.3;
+        shares_are = shares_append g player den [] [] xs ys
+            ∙ (λ i. x.shares_are i +ℤ y.shares_are i)
+            ∙ sym (mul-plus (pos weight) x.amount y.amount);
+        size = omega (arith, x.size, y.size, both, lists);
+      }
+
+  -- ---- a node's own payoff
+
+  module _ (own : Path) (f : IsFraction (pay_at g player own)) (fits : Fits (own ∷ [])) where
+    abbrev pay : Ratio
+    pay = pay_at g player own
+
+    own_part : IsPart den own.den pay
+        (pay.num *ℤ pos (den / (node_term g player own).head.den))
+    own_part = by (unsigned_abs pay.num == 0) refl (fits.exact.0 refl)
+      where
+        by : (b : Bool) → (unsigned_abs pay.num == 0) ≡ b
+            → (0 < (if b then 1 else own.den * pay.den))
+            × ((if b then 1 else own.den * pay.den) ∣ den)
+            → IsPart den own.den pay
+            (pay.num *ℤ pos (den / (if b then 1 else own.den * pay.den)))
+        by true is h =
+            let none = zero_is pay f (omega (arith, ints, eqb-true (unsigned_abs pay.num) 0 is)) in
+            grind (arith, zero-*ℤ)
+        by false is h = inl (
+          dvd_trans own.den (dvd-mul_right own.den pay.den) h.1,
+          own_value pay own.den den fits.den_above_zero h.1,
+        )
+
+    own_valued : IsValued (Some pay) own (own ∷ [])
+    own_valued =
+        let q = den / (node_term g player own).head.den in
+        record {
+          ratio = pay;
+          value_is = refl;
+          fraction = f;
+          amount = pay.num *ℤ pos q;
+          amount_is = λ some. own_part;
+          shares_are = +ℤ_idr ((pos own.weight *ℤ pay.num) *ℤ pos q)
+              ∙ *ℤ_assoc (pos own.weight) pay.num (pos q);
+          size =
+              let times = ap (λ k. k * own.bound) (unsigned_abs-mul pay.num (pos q)) in
+              omega (arith, times);
+        }
+
+  pub leaf_valued : {pay : Ratio} (own : Path) → pay_at g player own ≡ pay → IsFraction pay
+      → Fits (own ∷ []) → IsValued (Some pay) own (own ∷ [])
+  leaf_valued own pays f fits = rw (sym pays) (own_valued own (rw pays f) fits)
+
+  -- ---- a node on an idle path, which pays nothing
+
+  module _ (own : Path) (nothing : pay_at g player own ≡ zero_ratio) where
+    pub none_shared : (rs : List Path) → shares (own ∷ rs) ≡ shares rs
+    none_shared rs = grind (arith, none_first, *ℤ-zero)
+
+    -- it adds nothing to the value of a child
+    pub idle_move : {below : Option Ratio} {rs : List Path} → own.bound ≡ 0
+        → IsValued below own rs
+        → IsValued (plus_of (Some zero_ratio) below) own (own ∷ rs)
+    idle_move idle h = grind (arith, zero_plus, none_shared)
+
+  -- ---- a child of a chance move
+
+  -- numbers of a path that are not known stand for any, since the value is zero there
+  known : (room : Bool) {value : Option Ratio} {xs : List Path} (on : Path) → 0 < den
+      → IsValuedBy value (if room then on.weight else 0) (if room then on.bound else 1)
+      (if room then on.den else 0) xs → IsValued value on xs
+  known true on above h = h
+  known false on above h = grind (arith, eq-zero_of_zero-dvd, zero-*ℤ)
+
+  module _ (c : Ratio) (fc : IsFraction c) (sign : c.num ≡ pos (unsigned_abs c.num)) (path : Path)
+      (some : 1 ≤ path.bound) {value : Option Ratio} {xs : List Path} (fits : Fits xs)
+      (child : IsValued value (by_chance path c) xs) where
+    abbrev a : ℕ
+    a = unsigned_abs c.num
+
+    abbrev on : Path
+    on = record {
+      weight = path.weight * a;
+      bound = path.bound * a;
+      den = path.den * c.den;
+      demands = path.demands;
+      outcome = path.outcome;
+    }
+
+    h : IsValued value on xs
+    h = known (has_room path c) on fits.den_above_zero child
+
+    abbrev part : ℤ
+    part = c.num *ℤ h.amount
+
+    part_below : unsigned_abs part * path.bound ≤ bounds xs
+    part_below =
+        let times = ap (λ k. k * path.bound) (unsigned_abs-mul c.num h.amount) in
+        omega (arith, times, h.size)
+
+    product : (r : Ratio) × (product_of c h.ratio ≡ Some r) × IsFraction r
+        × IsPart den path.den r part
+    product = by (a == 0) refl
+      where
+        by : (b : Bool) → (a == 0) ≡ b → (r : Ratio) × (product_of c h.ratio ≡ Some r)
+            × IsFraction r × IsPart den path.den r part
+        by true is =
+            let none : c.num ≡ pos 0 = sign ∙ ap pos (eqb-true a 0 is) in (
+              zero_ratio,
+              none_times c fc none h.ratio h.fraction,
+              zero_fraction,
+              grind (arith, zero-*ℤ),
+            )
+        by false is =
+            let likely = eqb-false a 0 is in
+            product_part den fits.den_above_zero fits.den_within path.den c h.ratio h.amount fc
+            h.fraction (h.amount_is (mul_above path.bound a some (omega (arith, likely))))
+            (within_part part path.bound (bounds xs) some part_below fits.within)
+
+    pub times_valued : IsValued (times_of c value) path xs
+    times_valued = record {
+      ratio = product.0;
+      value_is = ap (times_of c) h.value_is ∙ product.1;
+      fraction = product.2;
+      amount = part;
+      amount_is = λ some. product.3;
+      shares_are = cc (h.shares_are, *ℤ_assoc (pos path.weight) (pos a) h.amount, sign);
+      size = part_below;
+    }
+
+-- ---- the value of a tree is the sum of the shares of the nodes that choices reach
 
 module _ (g : Game) (game : IsGame g) (spellable : IsSpellable g) (choose : SetKey → ℕ)
     (valid : (key : SetKey) (set : InformationSet) → set_at g key ≡ Some set
     → is_personal key ≡ true → (1 ≤ choose key) × (choose key ≤ length set.actions))
     (player den : ℕ) where
   -- these nodes have the value, if they fit
-  abbrev IfFits : Option Ratio → Path → List Reached → Type 0
+  abbrev IfFits : Option Ratio → Path → List Path → Type 0
   IfFits value path rs = FitsAt g player den [] [] rs → IsValued g player den value path rs
 
   abbrev entered : (ℕ → Option Path) → ℕ → Trees Node → List (Stop Path)
@@ -51,24 +299,24 @@ module _ (g : Game) (game : IsGame g) (spellable : IsSpellable g) (choose : SetK
   awake_valued : (n : Node) (ts : Trees Node) (path : Path) → 1 ≤ path.bound → Below n ts
       → (o : Option SetKey) → n.set ≡ o
       → IfFits (value_over (payoff_at g player n) o (value_below n ts)) path
-      (met_if false false path (paid_at_node g n)
-      ∷ map node_at (option_map_or (below_followed n ts path) o []))
+      (met_if false false path (paid_at_node g n) ∷ map node_at (option_map_or
+      (below_followed n ts (met_if false false path (paid_at_node g n))) o []))
   awake_valued n ts path some below None at fits =
       leaf_valued _ _ _ _ (paid_is g player n) (payoff_fraction g spellable player n) fits
   awake_valued n ts path some below (Some key) at fits =
-      let own : Reached = met_if false false path (paid_at_node g n) in
-      let rs = map node_at (below_followed n ts path key) in
+      let own : Path = met_if false false path (paid_at_node g n) in
+      let rs = map node_at (below_followed n ts own key) in
       let both = fits_parts _ _ _ (own ∷ []) rs fits in
       sum_valued _ _ _ (own ∷ []) rs some fits
       (leaf_valued _ _ _ own (paid_is g player n) (payoff_fraction g spellable player n) both.0)
-      (below path key at (λ _. some) both.1)
+      (below own key at (λ _. some) both.1)
 
   node_valued : (n : Node) (ts : Trees Node) (path : Path) → Below n ts
       → (o : Option SetKey) → n.set ≡ o → (idle : Bool) → (path.bound == 0) ≡ idle
       → (adds : Bool) → is_sum_at (paid_at_node g n) o ≡ adds
       → IfFits (value_over (payoff_at g player n) o (value_below n ts)) path
       (met_if idle adds path (paid_at_node g n) ∷ map node_at (option_map_or
-      (below_followed n ts (path_to (met_if idle adds path (paid_at_node g n)))) o []))
+      (below_followed n ts (met_if idle adds path (paid_at_node g n))) o []))
   node_valued n ts path below o at false idle adds is =
       let above = eqb-false path.bound 0 idle in
       awake_valued n ts path (omega (arith, above)) below o at
@@ -76,11 +324,11 @@ module _ (g : Game) (game : IsGame g) (spellable : IsSpellable g) (choose : SetK
   node_valued n ts path below None at true idle false is = λ fits.
       let unbound = eqb-true path.bound 0 idle in
       let own = met_if true false path (paid_at_node g n) in
-      zero_valued _ _ _ (path_to own) (own ∷ []) (payoff_fraction g spellable player n)
+      zero_valued _ _ _ own (own ∷ []) (payoff_fraction g spellable player n)
       (λ some. absurd (omega (arith, some, unbound))) (none_shared g player den own refl [])
   node_valued n ts path below (Some key) at true idle true is = λ fits.
       let unbound = eqb-true path.bound 0 idle in
-      let anew = path_to (met_if true true path 0) in
+      let anew = met_if true true path (paid_at_node g n) in
       let on = awake_valued n ts anew (omega arith) below (Some key) at fits in
       grind arith
   node_valued n ts path below (Some key) at true idle false is = λ fits.
@@ -88,7 +336,7 @@ module _ (g : Game) (game : IsGame g) (spellable : IsSpellable g) (choose : SetK
       let move : ¬ (key.player ≡ 0) × (paid_at_node g n ≡ 0) = grind arith in
       let pay : payoff_at g player n ≡ zero_ratio = cc (paid_is g player n) in
       let own = met_if true false path (paid_at_node g n) in
-      rw pay (idle_move _ _ _ own refl unbound (below path key at (λ chance. absurd (move.0 chance))
+      rw pay (idle_move _ _ _ own refl unbound (below own key at (λ chance. absurd (move.0 chance))
       (fits_parts _ _ _ (own ∷ []) _ fits).1))
 
   -- ---- the tree
@@ -103,7 +351,7 @@ module _ (g : Game) (game : IsGame g) (spellable : IsSpellable g) (choose : SetK
       grind arith
 
   either : (path : Path) (b : Bool) (player : ℕ) → (player == 0) ≡ b → {v w : Option Ratio}
-      {rs : List Reached} → (player ≡ 0 → IfFits v path rs)
+      {rs : List Path} → (player ≡ 0 → IfFits v path rs)
       → (¬ (player ≡ 0) → IfFits w path rs) → IfFits (if b then v else w) path rs
   either path true player is lot one = lot (eqb-true player 0 is)
   either path false player is lot one = one (eqb-false player 0 is)
@@ -123,7 +371,7 @@ module _ (g : Game) (game : IsGame g) (spellable : IsSpellable g) (choose : SetK
         n.set refl (path.bound == 0) refl (is_sum g n) refl
 
     lot_valued : (ts : Trees Node) (n : Node) (key : SetKey) (k : ℕ) (path : Path)
-        (states : ℕ → Option Path) {sum : Option Ratio} (before : List Reached)
+        (states : ℕ → Option Path) {sum : Option Ratio} (before : List Path)
         → ((j : ℕ) → states j ≡ Some (by_chance path (chances_at g n j)))
         → n.set ≡ Some key → key.player ≡ 0 → AllByRecursion (HasChildren g) (flatten_all ts)
         → 1 ≤ path.bound → IsValued g player den sum path before

@@ -1,19 +1,19 @@
 -- Numbers of actions, multiplied one after another, and what is counted for each player.
 use Rattle.gf_form.proofs.Common
-use Common.{first_uses_distinct, unwrap_or-slice_get, get_or-numbers_from, length-numbers_from, ◌≡◌}
+use Common.{first_uses_distinct, get_or-numbers_from, length-numbers_from, unwrap_or-slice_get, Vec}
 use Common.{All-from_recursion, same_set_equality, option_and_then, AllByRecursion, InformationSet}
-use Common.{AreStrategies, slice_get-map, action_counts, AllZip-long, AreDistinct, player_sets, suc}
-use Common.{at_position, player_keys, ArePositive, option_map, get_or-map, length-map, players_of}
-use Common.{strategies, All-get_or, mul_assoc, of_filter, slice_get, used_sets, unwrap_or, same_set}
-use Common.{mul_above, Described, AreCounts, take-suc, add-one, product, Option, has_at, set_at, []}
-use Common.{set_of, length, get_or, filter, SetKey, IsGame, Global, Counts, subst, arith, IsSet, ap}
-use Common.{None, Some, refl, zero, List, ◌++◌, take, ◌==◌, Game, ◌+◌, ◌*◌, ◌<◌, ◌≤◌, ◌∷◌, map, ◌∙◌}
-use Common.{Vec, sym, ℕ}
-use Rattle.gf_form.proofs.lemmas.rows.DigitPlaces.{product_joined}
+use Common.{AreStrategies, action_counts, slice_get-map, AllZip-long, AreDistinct, ArePositive, map}
+use Common.{at_position, player_keys, player_sets, All-get_or, get_or-map, length-map, option_map}
+use Common.{players_of, strategies, AreCounts, Described, mul_above, mul_assoc, of_filter, same_set}
+use Common.{slice_get, unwrap_or, used_sets, take-suc, add-one, product, Counts, Global, IsGame, []}
+use Common.{Option, SetKey, filter, get_or, has_at, length, set_at, set_of, IsSet, arith, subst, ap}
+use Common.{Game, List, None, Some, refl, take, zero, ◌++◌, ◌==◌, suc, sym, ◌*◌, ◌+◌, ◌<◌, ◌∙◌, ◌∷◌}
+use Common.{◌≡◌, ◌≤◌, ℕ}
+use Rattle.gf_form.proofs.lemmas.rows.Digits.{product_joined}
 use Rattle.std.proofs.Math.Nat.{mul-le-mul_left}
 pub use Rattle.std.proofs.lemmas.List.{take_all as take_past}
 use Rattle.gf_form.proofs.lemmas.strategies.Choices.{IsChoice, length-all_choices}
-use Rattle.gf_tree.proofs.lemmas.games.Lookups.{entry_at}
+use Rattle.gf_tree.proofs.Offered.{entry_at}
 use Rattle.gf_form.proofs.lemmas.strategies.Lookups.{all_mapped, zip_at, zip_by_places, zip_in_turn}
 
 -- ---- products

@@ -3,12 +3,12 @@
 -- others.
 use Rattle.gf_form.proofs.Common
 use Common.{mul-div_cancel_left, All-from_recursion, decimal_injective, slice_get-get_or, drop-cons}
-use Common.{AllByRecursion, strategy_label, join_with_byte, slice_get-map, reduced_label, mul_assoc}
-use Common.{if◌then◌else◌, append_assoc, all_choices, choice_text, map-append, All-get_or, take-suc}
-use Common.{all_weaker, length-map, map_twice, slice_get, all_both, add-one, decimal, product, ◌++◌}
-use Common.{IsPlain, length, get_or, mod-lt, Option, subst, arith, false, shown, take, drop, refl}
-use Common.{true, ◌==◌, List, Bool, Some, None, zero, ◌≡◌, suc, ◌+◌, ◌*◌, ◌/◌, ◌%◌, ◌<◌, ◌≤◌, ◌∷◌}
-use Common.{map, sym, ◌∙◌, ◌^◌, ap, [], ℕ}
+use Common.{AllByRecursion, join_with_byte, strategy_label, if◌then◌else◌, reduced_label, map_twice}
+use Common.{slice_get-map, append_assoc, all_choices, choice_text, All-get_or, all_weaker, all_both}
+use Common.{length-map, map-append, mul_assoc, slice_get, take-suc, IsPlain, add-one, decimal, Bool}
+use Common.{product, Option, get_or, length, mod-lt, arith, false, shown, subst, List, None, Some}
+use Common.{drop, refl, take, true, zero, ◌++◌, ◌==◌, map, suc, sym, ◌%◌, ◌*◌, ◌+◌, ◌/◌, ◌<◌, ◌^◌}
+use Common.{◌∙◌, ◌∷◌, ◌≡◌, ◌≤◌, [], ap, ℕ}
 use Rattle.std.proofs.lemmas.Bool.Decides.{nat_tests}
 use Rattle.std.proofs.lemmas.Fmt.{decimal_by_steps}
 use Rattle.gf_token.specs.LabelSpelling.{is_spelling_after, IsLabel}
@@ -16,7 +16,7 @@ use Rattle.gf_form.proofs.lemmas.strategies.CountedActions.{take_past}
 use Rattle.gf_form.proofs.lemmas.strategies.Choices.{IsChoice, choice_there, at_its_place, place}
 use Rattle.gf_form.proofs.lemmas.strategies.Choices.{length-all_choices, long, every_choice}
 use Rattle.gf_form.proofs.lemmas.strategies.Choices.{choices_distinct}
-use Rattle.gf_form.proofs.lemmas.rows.DigitPlaces.{product_joined}
+use Rattle.gf_form.proofs.lemmas.rows.Digits.{product_joined}
 pub use Rattle.gf_form.proofs.lemmas.strategies.Choices.{choices_next, choices_row, positive_parts}
 
 pub all_at : {A : Type 0} (P : A → Type 0) (xs : List A) (i : ℕ) (d : A) → AllByRecursion P xs

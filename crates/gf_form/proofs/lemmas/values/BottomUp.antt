@@ -2,27 +2,28 @@
 -- come before a tree, and count in each of its plays: so a node's own payoff is paid before its
 -- children.
 use Rattle.gf_form.proofs.Common
-use Common.{get_or-numbers_from, length-numbers_from, All-from_recursion, value as value_of, get_or}
-use Common.{play_probability, IsTerminalValue, option_and_then, InformationSet, AllByRecursion, inl}
-use Common.{HasValuesWith, mul_pos_right, if◌then◌else◌, IsChanceValue, IsChildValue, MultipliesTo}
-use Common.{play_payoff, MatchOption, flatten_all, IsSpellable, probability, IsMoveValue, one_ratio}
-use Common.{plus_across, HasChildren, times_above, times_right, cases_Bool, players_of, All-get_or}
-use Common.{ArePayoffs, IsFraction, length-map, plays_from, plus_above, chances_at, equal_refl, inr}
-use Common.{times_zero, option_map, times_plus, zero_ratio, plus_right, all_parts, plus_left, Ratio}
-use Common.{unwrap_or, plus_both, is_chosen, payoff_at, from_node, slice_get, at_place, *ℤ_assoc, ℕ}
-use Common.{eqb-true, +ℤ_assoc, IsAbove, IsValue, *ℤ_comm, flatten, follows, IsEqual, IfSome, count}
-use Common.{◌then◌, add-*ℤ, IsGame, filter, Option, *ℤ-one, set_at, length, payoff, branch, AddsTo}
-use Common.{SetKey, Action, plays, total, false, subst, arith, times, Trees, ◌==◌, zero, more, Tree}
-use Common.{Game, true, Node, none, None, Some, back, Play, List, Bool, plus, ◌++◌, refl, ◌∙◌, ◌≡◌}
-use Common.{map, ◌<◌, sym, suc, ◌∷◌, ◌+◌, ap, []}
-use Rattle.gf_fraction.proofs.Products.{mul_above}
+use Common.{get_or-numbers_from, length-numbers_from, All-from_recursion, value as value_of, *ℤ-one}
+use Common.{play_probability, IsTerminalValue, option_and_then, AllByRecursion, HasValuesWith, Bool}
+use Common.{IsChanceValue, if◌then◌else◌, mul_pos_right, IsChildValue, MultipliesTo, HasChildren, ℕ}
+use Common.{IsMoveValue, IsSpellable, MatchOption, flatten_all, play_payoff, plus_across, all_parts}
+use Common.{probability, times_above, times_right, All-get_or, ArePayoffs, IsFraction, cases_Bool}
+use Common.{chances_at, equal_refl, length-map, option_map, players_of, plays_from, plus_above, inl}
+use Common.{plus_right, times_plus, times_zero, zero_ratio, from_node, is_chosen, one_ratio, Action}
+use Common.{payoff_at, plus_both, plus_left, slice_get, unwrap_or, *ℤ_assoc, +ℤ_assoc, at_place, []}
+use Common.{eqb-true, *ℤ_comm, IsAbove, IsEqual, IsValue, flatten, follows, AddsTo, IfSome, IsGame}
+use Common.{Option, SetKey, add-*ℤ, branch, filter, get_or, length, payoff, set_at, ◌then◌, Ratio}
+use Common.{Trees, arith, count, false, plays, subst, times, total, Game, List, Node, None, Play}
+use Common.{Some, Tree, back, more, none, plus, refl, true, zero, ◌++◌, ◌==◌, inr, map, suc, sym}
+use Common.{◌+◌, ◌<◌, ◌∙◌, ◌∷◌, ◌≡◌, ap}
+use Rattle.gf_fraction.proofs.Offered.{mul_above}
 use Rattle.std.proofs.Math.IntN.{+ℤ_idr}
 use Rattle.gf_tree.specs.Description.{AddUpTo, AreActions}
-use Rattle.gf_form.proofs.lemmas.strategies.Lookups.{each_set, set_is, next_position}
-use Rattle.gf_form.proofs.lemmas.strategies.Lookups.{zip_in_turn, all_in_turn}
-use Rattle.gf_form.proofs.lemmas.values.Denominators.{probability_above, payoff_above, each_action}
-use Rattle.gf_form.proofs.lemmas.values.RowSums.{fraction_at}
-use Rattle.gf_form.proofs.lemmas.values.ValuesComputed.{value_is, none_computed}
+use Rattle.gf_form.proofs.lemmas.strategies.Lookups.{each_set, set_is, next_position, zip_in_turn}
+use Rattle.gf_form.proofs.lemmas.strategies.Lookups.{all_in_turn}
+use Rattle.gf_form.proofs.lemmas.rows.Descents.{set_there}
+use Rattle.gf_form.proofs.lemmas.values.ValuesComputed.{probability_above, payoff_above}
+use Rattle.gf_form.proofs.lemmas.values.ValuesComputed.{each_action, fraction_at, value_is}
+use Rattle.gf_form.proofs.lemmas.values.ValuesComputed.{none_computed}
 
 -- ---- sums and products whose parts are the same
 
@@ -96,18 +97,13 @@ pub has_set : (g : Game) (o : Option SetKey) (n : ℕ) → 0 < n → MatchOption
     → (key : SetKey) × (o ≡ Some key)
 has_set g o n above e = grind arith
 
--- the set with this number of actions
-known : (o : Option InformationSet) (m : ℕ) → option_map (λ set. length set.actions) o ≡ Some m
-    → (set : InformationSet) × (o ≡ Some set) × (length set.actions ≡ m)
-known o m h = grind arith
-
 module _ (g : Game) (game : IsGame g) where
   -- one action at a set of chance for each child, with its probability
   drawn : (n : Node) (key : SetKey) (m : ℕ) → n.set ≡ Some key → (key.player == 0) ≡ true
       → option_map (λ set. length set.actions) (set_at g key) ≡ Some m → (actions : List Action)
       × (length actions ≡ m) × AddUpTo zero_ratio actions one_ratio × AreDrawn g n 1 actions
   drawn n key m at chance size =
-      let set = known (set_at g key) m size in (
+      let set = set_there g key m size in (
         set.0.actions,
         set.2,
         subst (λ p. AreActions p set.0.actions) (eqb-true key.player 0 chance)
@@ -120,7 +116,7 @@ module _ (g : Game) (game : IsGame g) where
       (λ key. option_map (λ set. length set.actions) (set_at g key) ≡ Some m) → o ≡ None
   no_set None m nothing h = refl
   no_set (Some key) m nothing h =
-      let set = known (set_at g key) m h in
+      let set = set_there g key m h in
       absurd (omega (arith, (set_is g game key set.0 set.1).some_action, set.2))
 
   -- a player's move takes no part in the probability of a play
@@ -168,10 +164,7 @@ module _ (g : Game) (choices : SetKey → ℕ) (player : ℕ) where
       grind (arith, same p, shares_are chance paid f same ps, none_plus)
 
   pub payoff_is : shares one_ratio zero_ratio (plays g.tree) ≡ payoff g choices player
-  payoff_is =
-      shares_are one_ratio zero_ratio (λ p. times (play_probability g p) (play_payoff g player p))
-      (λ p i. times (once_times (play_probability g p) i) (none_plus (play_payoff g player p) i))
-      (plays g.tree)
+  payoff_is = grind (arith, shares_are, once_times, none_plus)
 
   module _ (chance paid : Ratio) where
     -- those of a child: each is one step longer
@@ -397,9 +390,7 @@ module _ (g : Game) (game : IsGame g) (spellable : IsSpellable g) (choices : Set
       let n = length g.players in
       let number : get_or (players_of g) k 0 ≡ suc k =
       omega (arith, get_or-numbers_from 1 n k 0 less) in
-      none_computed g spellable choices (suc k) g.tree nothing (subst HasValue number
-      (All-get_or HasValue (players_of g) k 0 (omega (arith, less, length-numbers_from 1 n))
-      (All-from_recursion HasValue (players_of g) h)))
+      grind (arith, none_computed, All-get_or, length-numbers_from, All-from_recursion)
 
 pub ruleset payoffs_by_plays = (one_value, value_is_payoff)
 

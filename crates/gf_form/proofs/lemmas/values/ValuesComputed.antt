@@ -1,17 +1,94 @@
--- The computed bottom-up value is the one of the relation. Zero added to a fraction, and its
--- multiples.
+-- The probabilities and payoffs of a game that a file can hold have denominators above zero, and no
+-- probability of a chance move is negative. The computed bottom-up value is the one of the relation;
+-- and rows that are added up, number by number.
 use Rattle.gf_form.proofs.Common
-use Common.{sum_is_computed, product_of-some, whole_fraction, IsChanceValue, if◌then◌else◌, IsValue}
-use Common.{IsChildValue, chance_value, one_fraction, MultipliesTo, MatchOption, IsSpellable, false}
-use Common.{child_value, sum_of-some, product_of, chances_at, IsFraction, value_over, zero_ratio, ℕ}
-use Common.{scaled_num, MatchBool, payoff_at, dvd_refl, times_of, *ℤ-zero, one-dvd, *ℤ_comm, Option}
-use Common.{plus_of, AddsTo, branch, SetKey, *ℤ-one, arith, Ratio, value, Trees, IsLcm, subst, none}
-use Common.{Some, zero, Node, None, ◌*ℤ◌, Tree, refl, more, ◌==◌, Game, true, Bool, ◌≡◌, ◌/◌, sym}
-use Common.{◌+◌, ◌∙◌, pos, suc, ◌*◌, ◌↔◌, ap, ℤ}
-use Rattle.gf_fraction.specs.inner.Computed.{sum_of}
-use Rattle.gf_fraction.proofs.ComputedArithmetic.{product_is_computed}
-use Rattle.gf_form.proofs.lemmas.values.Denominators.{probability_fraction, payoff_fraction}
+use Common.{fits_signed_from_abs, get_or-set_other, option_and_then, product_of-some, IsChanceValue}
+use Common.{sum_is_computed, AllByRecursion, InformationSet, get_or_default, whole_fraction, *ℤ-one}
+use Common.{if◌then◌else◌, IsChildValue, MultipliesTo, chance_value, one_fraction, unsigned_abs, []}
+use Common.{IsSpellable, MatchOption, at_position, child_value, get_or_past, probability, MatchBool}
+use Common.{sum_of-some, IsFraction, chances_at, outcome_at, product_of, scaled_num, value_over, ap}
+use Common.{zero_ratio, action_at, payoff_at, to_z-of_z, unwrap_or, at_place, cases_lt, dvd_refl, ℕ}
+use Common.{eqb-true, same_set, times_of, *ℤ-zero, *ℤ_comm, IsAbove, IsValue, Outcome, one-dvd, pos}
+use Common.{plus_of, Action, AddsTo, IfSome, IsGame, Option, SetKey, branch, get_or, length, set_at}
+use Common.{sum_of, IsLcm, IsSet, Ratio, Trees, arith, false, subst, value, Bool, Game, List, Node}
+use Common.{None, Some, Step, Tree, ints, more, none, refl, true, zero, ◌*ℤ◌, ◌==◌, set, suc, sym}
+use Common.{◌*◌, ◌+◌, ◌/◌, ◌<◌, ◌↔◌, ◌∙◌, ◌∷◌, ◌≡◌, ◌≤◌, ◌⊎◌, ℤ}
+use Rattle.gf_tree.specs.Spellable.{IsSpellableAction, IsSpellableSet, IsSpellableOutcome}
+use Rattle.gf_form.proofs.lemmas.strategies.Lookups.{each_described, each_at, each_set}
+use Rattle.std.specs.Prelude.{◌≤ℤ◌}
+use Rattle.gf_tree.specs.Description.{AddUpTo, AreActions}
+use Rattle.gf_fraction.specs.Offered.{sum_of}
+use Rattle.gf_fraction.proofs.Offered.{product_is_computed, product_of-none, sum_of-none}
 use Rattle.std.proofs.Math.Nat.{div_self}
+use Rattle.std.proofs.Math.ListN.{length-set}
+use Rattle.std.proofs.lemmas.List.{get_or-set_same}
+
+-- ---- denominators and signs
+
+-- what is so of the actions of a node's set is so of the one that is taken there
+pub each_action : (g : Game) (P : Action → Type 0) (s : Step)
+    → ((key : SetKey) → s.node.set ≡ Some key
+    → IfSome (set_at g key) (λ set. AllByRecursion P set.actions))
+    → IfSome (action_at g s) P
+each_action g P s sets = grind (arith, each_at P)
+
+module _ (g : Game) (spellable : IsSpellable g) where
+  actions_of : (key : SetKey)
+      → IfSome (set_at g key) (λ set. AllByRecursion IsSpellableAction set.actions)
+  actions_of key =
+      each_described IsSpellableSet (λ set. AllByRecursion IsSpellableAction set.actions)
+      (λ s. s.description) (λ s. same_set s.key key) g.sets (λ s h _. h.actions) spellable.sets
+
+  pub payoffs_of : (number : ℕ)
+      → IfSome (outcome_at g number) (λ outcome. AllByRecursion IsFraction outcome.payoffs)
+  payoffs_of number =
+      each_described IsSpellableOutcome (λ outcome. AllByRecursion IsFraction outcome.payoffs)
+      (λ o. o.description) (λ o. o.key == number) g.outcomes (λ o h _. h.payoffs) spellable.outcomes
+
+  pub probability_fraction : (s : Step) → IsFraction (probability g s)
+  probability_fraction s =
+      let taken = each_action g IsSpellableAction s (λ key _. actions_of key) in
+      let one = whole_fraction 1 (omega arith) in
+      grind arith
+
+  pub probability_above : (s : Step) → IsAbove (probability g s)
+  probability_above s = (probability_fraction s).den_above_zero
+
+  paid_fraction : (player : ℕ) (o : Option Outcome)
+      → IfSome o (λ outcome. AllByRecursion IsFraction outcome.payoffs) → IsFraction (unwrap_or
+      (option_and_then (λ outcome. at_position outcome.payoffs player) o) zero_ratio)
+  paid_fraction player o h =
+      let zero = whole_fraction 0 (omega arith) in grind (arith, each_at IsFraction)
+
+  pub payoff_fraction : (player : ℕ) (n : Node) → IsFraction (payoff_at g player n)
+  payoff_fraction player n =
+      let zero = whole_fraction 0 (omega arith) in grind (arith, paid_fraction, payoffs_of)
+
+  pub payoff_above : (player : ℕ) (n : Node) → IsAbove (payoff_at g player n)
+  payoff_above player n = (payoff_fraction player n).den_above_zero
+
+abbrev HasSign : Action → Type 0
+HasSign a = IfSome a.probability (λ p. pos 0 ≤ℤ p.num)
+
+lottery_signs : (actions : List Action) (sum total : Ratio) → AddUpTo sum actions total
+    → AllByRecursion HasSign actions
+lottery_signs [] sum total adds = tt
+lottery_signs (a ∷ actions) sum total adds =
+    (rw adds.2 adds.3, lottery_signs actions adds.1 total adds.5)
+
+set_signs : (players : ℕ) (key : SetKey) (o : Option InformationSet) → key.player ≡ 0
+    → IfSome o (IsSet players key) → IfSome o (λ set. AllByRecursion HasSign set.actions)
+set_signs players key None chance is = tt
+set_signs players key (Some set) chance is =
+    lottery_signs set.actions _ _ (subst (λ p. AreActions p set.actions) chance is.actions)
+
+pub chance_size : (g : Game) → IsGame g → (n : Node) (key : SetKey) (k : ℕ) → n.set ≡ Some key
+    → key.player ≡ 0 → (chances_at g n k).num ≡ pos (unsigned_abs (chances_at g n k).num)
+chance_size g game n key k at chance =
+    let sets = set_signs _ key (set_at g key) chance (each_set g game key) in
+    grind (arith, ints, at, each_at HasSign)
+
+-- ---- the computed bottom-up value is the one of the relation
 
 pub zero_fraction : IsFraction zero_ratio
 zero_fraction = whole_fraction 0 (omega arith)
@@ -185,3 +262,93 @@ module _ (x : Ratio) (f : IsFraction x) where
   times_zero =
       product_of-some x zero_ratio f zero_fraction zero_ratio zero_fraction
       (zero_by (pos (x.den * 1)) ∙ sym (ap (λ z. z *ℤ pos 1) (*ℤ-zero x.num)))
+
+-- ---- numbers at their places
+
+pub fraction_at : (row : List Ratio) (k : ℕ) → AllByRecursion IsFraction row
+    → IsFraction (at_place row k)
+fraction_at [] k h = grind (arith, zero_fraction)
+fraction_at (x ∷ row) zero h = h.0
+fraction_at (x ∷ row) (suc k) h = fraction_at row k h.1
+
+all_set : (row : List Ratio) (i : ℕ) (x : Ratio) → AllByRecursion IsFraction row → IsFraction x
+    → AllByRecursion IsFraction (set row i x)
+all_set (y ∷ row) (suc i) x h f = (h.0, all_set row i x h.1 f)
+all_set row i x h f = grind arith
+
+-- ---- rows that are added so far
+
+-- to the first i numbers of `old` those of `row` are added
+pub record Added (step : Ratio → Ratio → Option Ratio) (old new row : List Ratio) (i : ℕ)
+    : Type 0 where
+  pub counted : length new ≡ length row
+  pub fractions : AllByRecursion IsFraction new
+  pub done : (k : ℕ) → k < i → step (at_place old k) (at_place row k) ≡ Some (at_place new k)
+  pub kept : (k : ℕ) → i ≤ k → at_place new k ≡ at_place old k
+
+module _ (step : Ratio → Ratio → Option Ratio) (old new row : List Ratio) where
+  pub one_added : (i : ℕ) (x : Ratio) → Added step old new row i → i < length row
+      → step (at_place new i) (at_place row i) ≡ Some x → IsFraction x
+      → Added step old (set new i x) row (i + 1)
+  one_added i x a h is f =
+      grind (arith, length-set, all_set, cases_lt, get_or-set_other, set, get_or-set_same)
+
+  pub all_added : Added step old new row (length row) → step zero_ratio zero_ratio ≡ Some zero_ratio
+      → (k : ℕ) → step (at_place old k) (at_place row k) ≡ Some (at_place new k)
+  all_added a zeros k = grind (arith, cases_lt, get_or_past)
+
+-- ---- what is read at a place
+
+pub place_is : (row : List Ratio) (i : ℕ) (x : Ratio) → i < length row → x ≡ get_or row i x
+    → at_place row i ≡ x
+place_is row i x h e = get_or_default row i zero_ratio x h ∙ sym e
+
+pub read_fraction : (row : List Ratio) (i : ℕ) (x : Ratio) → AllByRecursion IsFraction row
+    → i < length row → x ≡ get_or row i x → IsFraction x
+read_fraction row i x f h e = subst IsFraction (place_is row i x h e) (fraction_at row i f)
+
+-- ---- nothing is added
+
+pub empty_row : (row : List Ratio) → true ≡ (length row == 0) → (k : ℕ)
+    → at_place row k ≡ zero_ratio
+empty_row row h k = grind (arith, eqb-true, get_or_past)
+
+pub nothing_weighed : (chance : Ratio) (sum row : List Ratio)
+    → IsFraction chance → AllByRecursion IsFraction sum → AllByRecursion IsFraction row → (k : ℕ)
+    → (chance.num ≡ pos 0) ⊎ (at_place row k ≡ zero_ratio) → plus_of (Some (at_place sum k))
+    (times_of chance (Some (at_place row k))) ≡ Some (at_place sum k)
+nothing_weighed chance sum row fc fs fr k h =
+    grind (arith, plus_zero, fraction_at, none_times, times_zero)
+
+-- a product with zero, and a sum with it
+pub zero_weighed : (number chance other : Ratio) → IsFraction number → IsFraction chance
+    → IsFraction other → other.num ≡ pos 0
+    → plus_of (Some number) (times_of chance (Some other)) ≡ Some number
+zero_weighed number chance other fn fc fo nothing =
+    grind (arith, zero_is, times_zero, plus_zero)
+
+pub first_weighed : (number chance other product : Ratio) → IsFraction number → IsFraction product
+    → number.num ≡ pos 0 → times_of chance (Some other) ≡ Some product
+    → plus_of (Some number) (times_of chance (Some other)) ≡ Some product
+first_weighed number chance other product fn fp nothing is = grind (arith, zero_is, zero_plus)
+
+pub zeros_weighed : (chance : Ratio) → IsFraction chance
+    → plus_of (Some zero_ratio) (times_of chance (Some zero_ratio)) ≡ Some zero_ratio
+zeros_weighed chance f = cc (times_zero chance f, plus_zero zero_ratio zero_fraction)
+
+pub nothing_paid : (row payoffs : List Ratio) → AllByRecursion IsFraction row
+    → true ≡ (length payoffs == 0) → (k : ℕ)
+    → sum_of (at_place payoffs k) (at_place row k) ≡ Some (at_place row k)
+nothing_paid row payoffs f h k = grind (arith, empty_row, zero_plus, fraction_at)
+
+-- ---- what the steps of the code need
+
+pub ruleset sum_steps = (sum_of-some, sum_of-none, product_of-some, product_of-none)
+
+pub ruleset weighed_steps =
+    (sum_steps, zero_weighed, first_weighed, to_z-of_z, fits_signed_from_abs)
+
+pub ruleset weigh_steps =
+    (nothing_weighed, to_z-of_z, fits_signed_from_abs, empty_row, read_fraction, place_is)
+
+pub ruleset pay_steps = (nothing_paid, read_fraction, place_is)

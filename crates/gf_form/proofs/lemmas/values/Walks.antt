@@ -1,27 +1,123 @@
--- The value of a tree by its branches, and what is left of it while a walk goes through them.
+-- The payoffs of outcomes, by their positions; the nodes in a list, in which children stand one after
+-- another; the value of a tree by its branches, and what is left of it during a walk.
 use Rattle.gf_form.proofs.Common
-use Common.{first_uses_distinct, false_from_ne_true, same_set_equality, sets_by_first_use, list_of}
-use Common.{option_and_then, branches_given, length-append, branches_left, chance_value, option_map}
-use Common.{AreDistinct, strategy_at, MatchOption, at_position, player_keys, flatten_all, one_ratio}
-use Common.{child_trees, child_value, choices_by, chances_at, zero_ratio, root_node, choice_at, ◌≡◌}
-use Common.{slice_get, unwrap_or, payoff_at, flatten, plus_of, game_of, tree_of, IsGame, set_at, []}
-use Common.{has_at, length, Option, Global, eq-eqb, branch, Action, SetKey, Trees, Ratio, arith, ap}
-use Common.{value, List, ◌++◌, Some, None, refl, Tree, none, more, Game, Node, suc, ◌+◌, ◌<◌, ◌∷◌}
-use Common.{map, Vec, ◌∙◌, sym, ℕ, drop, drop-cons, zero}
-use Rattle.std.proofs.Math.Seq.{drop-nil}
+use Common.{first_uses_distinct, unwrap_or-slice_get, false_from_ne_true, get_or_append_left, IsRow}
+use Common.{same_set_equality, sets_by_first_use, slice_get-get_or, option_and_then, get_or_default}
+use Common.{outcome_numbers, slice_get_past, length-append, slice_get-map, chance_value, chances_at}
+use Common.{paid_at_node, AreDistinct, IsSpellable, MatchOption, at_position, child_trees, at_index}
+use Common.{child_value, flatten_all, player_keys, strategy_at, choices_by, get_or-map, length-map}
+use Common.{option_map, outcome_at, zero_ratio, Described, choice_at, drop-cons, one_ratio, ArePaid}
+use Common.{payoff_at, root_node, slice_get, unwrap_or, at_place, cases_lt, eqb-true, Outcome, Game}
+use Common.{flatten, game_of, list_of, plus_of, tree_of, Action, Global, IsGame, Option, SetKey, []}
+use Common.{branch, eq-eqb, get_or, has_at, length, nat_eq, row_at, set_at, Ratio, Trees, arith, ap}
+use Common.{subst, value, List, Node, None, Some, Tree, drop, more, none, paid, refl, zero, ◌++◌, ℕ}
+use Common.{◌==◌, Vec, inl, inr, map, suc, sym, ◌+◌, ◌-◌, ◌<◌, ◌∙◌, ◌∷◌, ◌≡◌, ◌≤◌}
+use Rattle.std.specs.Prelude.{position}
+use Rattle.std.proofs.lemmas.List.Quantifiers.{position-Some}
+use Rattle.gf_tree.proofs.Offered.{not_described}
+use Rattle.std.proofs.lemmas.List.{get_or_push, drop-append-le, reverse-append}
+use Rattle.gf_tree.specs.Description.{IsOutcome}
+use Rattle.gf_form.proofs.lemmas.values.ValuesComputed.{payoffs_of, none_stays}
+use Rattle.gf_form.proofs.lemmas.strategies.Lookups.{each_described}
+use Rattle.std.specs.List.{sum_by}
+use Rattle.std.proofs.lemmas.List.Sums.{sum_by-append, sum_by-cons, sum_by_push}
 use Rattle.std.proofs.lemmas.Option.{get_or_from_slice_get, slice_get_within}
+use Rattle.std.proofs.Math.Seq.{get_or-append_seam, drop-nil}
+use Rattle.gf_tree.specs.declared.game.branch.Branch.{Branch}
+use Rattle.gf_form.proofs.lemmas.strategies.StrategiesByNumber.{all_at}
+use Rattle.gf_form.specs.declared.values.nodes.Nodes.{Nodes}
+use Rattle.gf_form.specs.inner.values.NodeLists.{AreNodesOf, AreOf, StandFrom, tree_at, trees_in}
+use Rattle.gf_form.specs.inner.values.Values.{trees_of}
 use Rattle.std.proofs.Common.{reverse}
-use Rattle.std.proofs.lemmas.List.Sums.{sum_by_push}
-use Rattle.std.proofs.lemmas.List.{reverse-append}
-use Rattle.gf_form.proofs.lemmas.values.PaidRows.{at_mapped, own_is}
 use Rattle.gf_form.specs.declared.values.walk.Open.{Open}
 use Rattle.gf_form.specs.declared.values.walk.Open.TheVariants.{Chance, Choice}
 use Rattle.gf_form.specs.declared.values.walk.Walk.{Walk}
 use Rattle.gf_form.specs.inner.values.ValueLeft.{choices_of, node_there, open_value, tree_there}
 use Rattle.gf_form.specs.inner.values.ValueLeft.{tree_value, trees_left, whole_value, with_own}
 use Rattle.gf_form.specs.inner.values.ValueLeft.{Lacks}
-use Rattle.gf_form.specs.inner.values.Values.{trees_of}
-use Rattle.gf_form.proofs.lemmas.values.ValuesComputed.{none_stays}
+
+-- ---- the payoffs of an outcome, by its position
+
+place_is : (n : ℕ) (ns : List ℕ) (place : ℕ) → position (nat_eq n) ns ≡ Some place
+    → slice_get ns place ≡ Some n
+place_is n ns place h =
+    let there = position-Some (nat_eq n) ns place 0 h in
+    let same = eqb-true n (get_or ns place 0) there.1 in
+    slice_get-get_or ns place 0 there.0 ∙ ap Some (sym same)
+
+pub paid_is : (g : Game) (player : ℕ) (n : Node)
+    → paid g player (paid_at_node g n) ≡ payoff_at g player n
+paid_is g player n = grind (arith, not_described, place_is)
+
+pub own_is : (g h : Game) (rows : List (List Ratio)) (n : Node) (row : List Ratio) (k : ℕ)
+    → ArePaid g rows → h ≡ g → row ≡ row_at rows (paid_at_node h n)
+    → at_place row k ≡ payoff_at g (suc k) n
+own_is g h rows n row k paid e is = grind (arith, paid_is, paid.paid_is)
+
+-- what stands at a position is carried along
+pub at_mapped : {A B : Type 0} (f : A → B) (xs : List A) (position : ℕ)
+    → at_position (map f xs) position ≡ option_map f (at_position xs position)
+at_mapped f xs zero = refl
+at_mapped f xs (suc k) = grind (arith, slice_get-map)
+
+pub ruleset position_steps = (at_index, slice_get-get_or, slice_get_past)
+
+-- ---- what an outcome pays
+
+pub paid_some : (g : Game) (position number : ℕ) (outcome : Outcome) (k : ℕ)
+    → at_position (outcome_numbers g) position ≡ Some number
+    → outcome_at g number ≡ Some outcome → at_place outcome.payoffs k ≡ paid g (suc k) position
+paid_some g position number outcome k e f = cc (unwrap_or-slice_get outcome.payoffs k zero_ratio)
+
+pub row_of_outcome : (g : Game) → IsGame g → IsSpellable g → (number : ℕ) (outcome : Outcome)
+    → outcome_at g number ≡ Some outcome → IsRow (length g.players) outcome.payoffs
+row_of_outcome g game spellable number outcome e =
+    let fractions = payoffs_of g spellable number in
+    let counted = each_described (λ (o : Described ℕ Outcome).
+    IsOutcome (length g.players) o.key o.description)
+    (λ outcome. length outcome.payoffs ≡ length g.players) (λ o. o.description)
+    (λ o. o.key == number) g.outcomes (λ o h _. h.one_payoff_each) game.each_outcome in
+    grind arith
+
+-- ---- rows that are kept one after another
+
+-- the row at a position is that of the outcome there
+pub record IsPaidAt (g : Game) (row : List Ratio) (position : ℕ) : Type 0 where
+  pub paid_is : (k : ℕ) → at_place row k ≡ paid g (suc k) position
+  pub row_is : IsRow (length g.players) row
+
+-- those of this many of the first outcomes
+pub record ArePaidTo (g : Game) (rows : List (List Ratio)) (count : ℕ) : Type 0 where
+  pub counted : length rows ≡ count
+  pub each : (position : ℕ) → position ≤ count → IsPaidAt g (row_at rows position) position
+
+pub one_row : (g : Game) (rows : List (List Ratio)) (row : List Ratio) (count : ℕ)
+    → ArePaidTo g rows count → IsPaidAt g row (count + 1)
+    → ArePaidTo g (rows ++ row ∷ []) (count + 1)
+one_row g rows row count are is = record {
+  counted =
+      let counted = are.counted in
+      omega (arith, counted, length-append rows (row ∷ []));
+  each = λ position h. by position h;
+}
+  where
+    by : (position : ℕ) → position ≤ count + 1
+        → IsPaidAt g (row_at (rows ++ row ∷ []) position) position
+    by zero h = are.each 0 (omega arith)
+    by (suc k) h = elim (cases_lt k count) [
+      | inl less ↦
+          let kept = are.each (suc k) (omega (arith, less)) in
+          let counted = are.counted in grind (arith, unwrap_or-slice_get, get_or_append_left)
+      | inr beyond ↦ let counted = are.counted in grind (arith, unwrap_or-slice_get, get_or_push)
+    ]
+
+pub all_rows : (g : Game) (rows : List (List Ratio)) → ArePaidTo g rows (length (outcome_numbers g))
+    → ArePaid g rows
+all_rows g rows are = grind (arith, slice_get_past, cases_lt)
+
+pub below_players : (players k : ℕ) (row : List Ratio) → k < length row → IsRow players row
+    → k < players
+below_players players k row less is = grind arith
 
 -- ---- the value of a tree by the list of its children
 
@@ -30,10 +126,10 @@ trees_of_list none = refl
 trees_of_list (more t ts) = ap (more t) (trees_of_list ts)
 
 module _ (g : Game) (choices : SetKey → ℕ) (player : ℕ) where
-  child_there : (ts : Trees Node) (position : ℕ) → child_value g choices player position ts
+  value_there : (ts : Trees Node) (position : ℕ) → child_value g choices player position ts
       ≡ option_and_then (value g choices player) (at_position (list_of ts) position)
-  child_there (more t ts) (suc (suc position)) = child_there ts (suc position)
-  child_there ts position = grind arith
+  value_there (more t ts) (suc (suc position)) = value_there ts (suc position)
+  value_there ts position = grind arith
 
   pub value_of_leaf : (t : Tree Node) → (root_node t).set ≡ None
       → value g choices player t ≡ Some (payoff_at g player (root_node t))
@@ -51,7 +147,7 @@ module _ (g : Game) (choices : SetKey → ℕ) (player : ℕ) where
       → value g choices player t ≡ plus_of (Some (payoff_at g player (root_node t)))
       (option_and_then (value g choices player) (at_position (child_trees t) (choices key)))
   value_by_choice (branch n ts) key is personal =
-      grind (arith, is, false_from_ne_true, child_there)
+      grind (arith, is, false_from_ne_true, value_there)
 
 -- ---- what is open
 
@@ -152,3 +248,109 @@ pub ruleset draw_steps = (left_more, none_left, length-append)
 pub ruleset enter_steps = (own_is, value_of_leaf, value_by_chance, chosen, child_smaller, tree_size)
 
 pub ruleset whole_steps = (sum_by_push, turned)
+
+-- ---- the list of a game's nodes while it is made
+
+-- what stands at a place stays there
+still_there : {A : Type 0} (xs ys : List A) (k : ℕ) (x : A) → slice_get xs k ≡ Some x
+    → slice_get (xs ++ ys) k ≡ Some x
+still_there (y ∷ xs) ys (suc k) x h = still_there xs ys k x h
+still_there xs ys k x h = grind arith
+
+behind : {A : Type 0} (xs ys : List A) (k : ℕ)
+    → slice_get (xs ++ ys) (length xs + k) ≡ slice_get ys k
+behind [] ys k = ap (slice_get ys) (omega arith)
+behind (x ∷ xs) ys k =
+    let next : length (x ∷ xs) + k ≡ suc (length xs + k) = omega arith in rw next (behind xs ys k)
+
+-- the children of so many of these trees, the first ones, stand at their places
+abbrev StandFor : Game → List (Tree Node) → List ℕ → Type 0
+StandFor g trees firsts = (at : ℕ) → at < length firsts
+    → StandFrom trees (get_or firsts at 0) (get_or trees at g.tree)
+
+one_more : (g : Game) (trees : List (Tree Node)) (firsts : List ℕ) → length firsts < length trees
+    → StandFor g trees firsts
+    → StandFor g (trees ++ child_trees (get_or trees (length firsts) g.tree))
+    (firsts ++ length trees ∷ [])
+one_more g trees firsts less h at within k child is =
+    let n = length firsts in
+    let ts = child_trees (get_or trees n g.tree) in
+    grind (arith, cases_lt, get_or_append_left, still_there, length-append, get_or-append_seam, behind)
+
+-- a game's nodes, those before one with their children
+pub record AreListed (g : Game) (branches : List Branch) (firsts : List ℕ) : Type 0 where
+  pub games : AreOf g branches
+  pub root : slice_get (map tree_of branches) 0 ≡ Some g.tree
+  pub upto : length firsts ≤ length branches
+  pub children : StandFor g (map tree_of branches) firsts
+
+-- ---- how much is left
+
+abbrev pub sizes : List (Tree Node) → ℕ
+sizes trees = sum_by (λ t. length (flatten t)) trees
+
+sizes_of : (ts : List (Tree Node)) → sizes ts ≡ length (flatten_all (trees_of ts))
+sizes_of [] = refl
+sizes_of (t ∷ ts) =
+    omega (
+      arith,
+      sum_by-cons (λ (t : Tree Node). length (flatten t)) t ts,
+      length-append (flatten t) (flatten_all (trees_of ts)),
+      sizes_of ts,
+    )
+
+less_left : (trees : List (Tree Node)) (n : ℕ) (d : Tree Node) → n < length trees
+    → sizes (drop (n + 1) (trees ++ child_trees (get_or trees n d))) < sizes (drop n trees)
+less_left trees n d less =
+    let t = get_or trees n d in
+    let size = λ (t : Tree Node). length (flatten t) in
+    let next : n + 1 ≡ suc n = omega arith in
+    let rest = drop-append-le (suc n) trees (child_trees t) (omega (arith, less)) in
+    let both = sum_by-append size (drop (suc n) trees) (child_trees t) in
+    let own = sum_by-cons size t (drop (suc n) trees) in
+    grind (arith, drop-cons, sizes_of, tree_size)
+
+-- ---- one node more
+
+module _ (g : Game) (branches next : List Branch) (firsts : List ℕ) (node : Branch)
+    (less : length firsts < length branches) (is : node ≡ get_or branches (length firsts) node)
+    (trees : map tree_of next ≡ map tree_of branches ++ child_trees (tree_of node)) where
+  counted : length (map tree_of branches) ≡ length branches
+  counted = length-map branches tree_of
+
+  there : tree_of node ≡ get_or (map tree_of branches) (length firsts) g.tree
+  there = ap tree_of is ∙ sym (get_or-map tree_of branches (length firsts) node g.tree less)
+
+  pub list_more : (AreOf (game_of node) branches → AreOf (game_of node) next)
+      → AreListed g branches firsts → AreListed g next (firsts ++ length branches ∷ [])
+  list_more games h =
+      let its = ap game_of is
+      ∙ all_at (λ (b : Branch). game_of b ≡ g) branches (length firsts) node h.games less in
+      let more = one_more g (map tree_of branches) firsts (omega (arith, less, counted)) h.children in
+      grind (arith, still_there, counted, length-map, length-append, there)
+
+  pub sizes_fall : (on : List ℕ) → length on ≡ length firsts + 1
+      → sizes (drop (length on) (map tree_of next))
+      < sizes (drop (length firsts) (map tree_of branches))
+  sizes_fall on long =
+      rw (long, trees, there)
+      (less_left (map tree_of branches) (length firsts) g.tree (omega (arith, less, counted)))
+
+-- ---- a child
+
+pub child_there : (g : Game) (ns : Nodes) (at before first : ℕ) (node : Branch) → AreNodesOf g ns
+    → at < length ns.branches.items → node ≡ get_or ns.branches.items at node
+    → before < length (child_trees (tree_of node)) → first ≡ get_or ns.firsts.items at first
+    → (first + before < length ns.branches.items)
+    × (slice_get (child_trees (tree_at g ns at)) before ≡ Some (tree_at g ns (first + before)))
+child_there g ns at before first node are there node_is less first_is =
+    let ts = child_trees (tree_at g ns at) in
+    let child = get_or ts before g.tree in
+    let tree : tree_of node ≡ tree_at g ns at =
+    ap tree_of node_is ∙ sym (get_or-map tree_of ns.branches.items at node g.tree there) in
+    let is = slice_get-get_or ts before g.tree (rw tree at less) in
+    let same_first : get_or ns.firsts.items at 0 ≡ first =
+    get_or_default ns.firsts.items at 0 first (omega (arith, there, are.one_each)) ∙ sym first_is in
+    let stands = rw same_first at (are.children at there before child is) in
+    let same = get_or_from_slice_get (trees_in ns) (first + before) child g.tree stands in
+    grind (arith, slice_get_within, length-map)

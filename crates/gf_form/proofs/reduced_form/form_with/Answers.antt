@@ -1,7 +1,7 @@
-use Rattle.gf_form.proofs.Common.{arith, IfOk-weaker, IsPaidAt, reduced_labels}
+use Rattle.gf_form.proofs.Common.{reduced_labels, IfOk-weaker, IsPaidAt, arith}
 use Rattle.gf_form.proofs.lemmas.reduced.FirstStrategies.{fewer_profiles, reduced_made}
 use Rattle.gf_form.proofs.lemmas.reduced.ReducedForms.{reduced_form_profiles, some_reduced_label}
-use Rattle.gf_form.proofs.lemmas.form.FormMade.{fits_table, form_made}
+use Rattle.gf_form.proofs.lemmas.form.Forms.{fits_table, form_made}
 use Rattle.gf_form.proofs.reduced_form.form_with.Goals as goal
 
 pub table_with-requires-clause-fits : goal.table_with-requires-clause-fits

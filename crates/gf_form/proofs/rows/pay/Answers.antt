@@ -1,5 +1,5 @@
-use Rattle.gf_form.proofs.Common.{◌≡◌, Some, arith, length, zero_ratio, plus_of}
-use Rattle.gf_form.proofs.lemmas.values.RowSums.{all_added, one_added, place_is}
+use Rattle.gf_form.proofs.Common.{zero_ratio, plus_of, length, arith, Some, ◌≡◌}
+use Rattle.gf_form.proofs.lemmas.values.ValuesComputed.{all_added, one_added, place_is}
 use Rattle.gf_form.proofs.lemmas.values.ValuesComputed.{zero_fraction, plus_zero}
 use Rattle.gf_form.proofs.rows.pay.Goals as goal
 

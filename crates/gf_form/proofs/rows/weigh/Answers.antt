@@ -1,5 +1,6 @@
-use Rattle.gf_form.proofs.Common.{◌≡◌, Some, arith, length, plus_of, times_of}
-use Rattle.gf_form.proofs.lemmas.values.RowSums.{all_added, one_added, place_is, zeros_weighed}
+use Rattle.gf_form.proofs.Common.{times_of, plus_of, length, arith, Some, ◌≡◌}
+use Rattle.gf_form.proofs.lemmas.values.ValuesComputed.{all_added, one_added, place_is}
+use Rattle.gf_form.proofs.lemmas.values.ValuesComputed.{zeros_weighed}
 use Rattle.gf_form.proofs.rows.weigh.Goals as goal
 
 pub loop-i-preserved : goal.loop-i-preserved

@@ -1,5 +1,5 @@
-use Rattle.gf_form.proofs.Common.{Some, plus_of, times_of}
-use Rattle.gf_form.proofs.lemmas.values.RowSums.{Added}
+use Rattle.gf_form.proofs.Common.{times_of, plus_of, Some}
+use Rattle.gf_form.proofs.lemmas.values.ValuesComputed.{Added}
 use Rattle.gf_form.proofs.rows.weigh.Given as goal
 
 abbrev pub invariant-loop-i : goal.invariant-loop-i

@@ -1,5 +1,5 @@
 use Rattle.gf_form.proofs.Common.{arith}
-use Rattle.gf_form.proofs.lemmas.values.RowSums.{weighed_steps}
+use Rattle.gf_form.proofs.lemmas.values.ValuesComputed.{weighed_steps}
 use Rattle.gf_form.proofs.rows.weighed.Goals as goal
 
 pub returns-then-num-eq0-clause-is : goal.returns-then-num-eq0-clause-is

@@ -1,7 +1,6 @@
-use Rattle.gf_form.proofs.Common.{arith, length-map, IfOk-weaker, ArePayoffsAt, strategy_labels}
-use Rattle.gf_form.proofs.lemmas.form.FormMade.{fits_table, form_made}
+use Rattle.gf_form.proofs.Common.{strategy_labels, ArePayoffsAt, IfOk-weaker, length-map, arith}
+use Rattle.gf_form.proofs.lemmas.form.Forms.{fits_table, form_made, all_profiles}
 use Rattle.gf_form.proofs.lemmas.strategies.CountedActions.{some_strategy}
-use Rattle.gf_form.proofs.lemmas.form.Forms.{all_profiles}
 use Rattle.gf_form.proofs.strategic_form.form_with.Goals as goal
 
 pub table_with-requires-clause-fits : goal.table_with-requires-clause-fits

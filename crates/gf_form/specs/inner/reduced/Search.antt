@@ -1,13 +1,12 @@
--- A search for the first strategies of a player, digit by digit, and another one for their labels.
+-- A search for the first strategies of a player, digit by digit.
 use Rattle.std.specs.Prelude.{◌≡◌, ◌≤◌, ◌<◌, ◌+◌, ◌*◌, ◌^◌, ◌==◌, ◌&&◌, ◌||◌, ℕ, Bool, false}
-use Rattle.std.specs.Prelude.{List, [], ◌∷◌, ⊤, drop, get_or, length, map, nat_lt, take}
+use Rattle.std.specs.Prelude.{List, [], drop, get_or, length, map, nat_lt, take}
 use Rattle.std.specs.List.{AllByRecursion}
 use Rattle.gf_nfg.specs.Profiles.{product}
 use Rattle.std.specs.Cmp.Lexicographic.{pointwise}
 use Rattle.gf_tree.specs.FiniteMap.{first_uses}
-use Rattle.gf_tree.specs.KeysInOrder.{player_keys}
 use Rattle.gf_tree.specs.Game.{Game}
-use Rattle.gf_form.specs.Reduced.{reduced, reduced_label, same_choice}
+use Rattle.gf_form.specs.Reduced.{reduced, same_choice}
 use Rattle.gf_form.specs.Strategies.{action_counts, all_choices, strategies}
 use Rattle.gf_form.specs.inner.reduced.Levels.{IsLevel, is_left}
 use Rattle.gf_form.specs.inner.reduced.OwnDigits.{digits_from}
@@ -79,11 +78,6 @@ pub record IsToldBy (g : Game) (player : ℕ) (digits : List OwnDigit) (flag : �
 
 -- ---- first strategies
 
--- each number is less than those after it
-abbrev pub AreInTurn : List ℕ → Type 0
-AreInTurn [] = ⊤
-AreInTurn (n ∷ numbers) = AllByRecursion (λ m. n < m) numbers × AreInTurn numbers
-
 -- The set of the digit at a place is relevant, or the digit is one of the first ones, as many as
 -- the depth says, and has the first action.
 abbrev pub is_settled : Game → ℕ → List OwnDigit → ℕ → ℕ → ℕ → Bool
@@ -119,25 +113,3 @@ pub record AreFoundTo (g : Game) (player : ℕ) (numbers : List ℕ) (number : �
       ≡ first_uses (pointwise same_choice)
       (map (reduced g player) (take number (strategies g player)))
   pub within : AllByRecursion (λ n. n < number) numbers
-  pub ordered : AreInTurn numbers
-
--- ---- labels
-
--- The digits but these are chosen, and the level tells which sets are relevant.
-abbrev pub IsShown : Game → ℕ → List OwnDigit → Level → ℕ → ℕ → Type 0
-IsShown g player digits level number count =
-    IsToldBy g player digits (is_relevant_at g player) (length (player_keys g player)) level number
-    count
-
--- the labels of the first of the strategies with these numbers, all of which are before a number
-pub record AreLabelledTo (g : Game) (player : ℕ) (numbers : List ℕ) (labels : List (List ℕ))
-    (number : ℕ) : Type 0
-  where
-    pub are : labels ≡ map (λ n. reduced_label (reduced g player (numbered g player n)))
-        (take (length labels) numbers)
-    pub next : length labels < length numbers → number ≤ get_or numbers (length labels) 0
-
--- the next of these numbers, if so many have a label, is less than this one
-abbrev pub IsNextBelow : List ℕ → List (List ℕ) → ℕ → Type 0
-IsNextBelow numbers labels number =
-    (length labels < length numbers) × (get_or numbers (length labels) 0 < number)

@@ -19,6 +19,11 @@ in_order (own ∷ others) = in_order others ++ own
 abbrev pub width : List ℕ → ℕ
 width counts = product (spans (picked counts counts))
 
+-- What one more action at each of these sets adds to the number of a choice at all.
+abbrev pub strides_of : List ℕ → List ℕ
+strides_of [] = []
+strides_of (n ∷ later) = product later ∷ strides_of later
+
 -- The step of the digit of each of these sets, if the digits that are faster than all of them have
 -- this many values together; 0 if there is no digit.
 abbrev pub steps_after : ℕ → List ℕ → List ℕ

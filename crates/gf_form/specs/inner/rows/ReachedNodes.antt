@@ -13,7 +13,6 @@ use Rattle.gf_form.specs.inner.rows.Descents.{Handing, Stop, choosing, demanding
 use Rattle.gf_form.specs.inner.values.Rows.{paid_at_node}
 use Rattle.gf_form.specs.inner.values.Values.{chances_at}
 use Rattle.gf_form.specs.declared.rows.paths.Path.{Path}
-use Rattle.gf_form.specs.declared.rows.paths.Reached.{Reached}
 
 -- whether the numbers of a path still fit after an action of this probability
 abbrev pub has_room : Path → Ratio → Bool
@@ -30,11 +29,12 @@ by_chance path chance = record {
   bound = if has_room path chance then path.bound * unsigned_abs chance.num else 1;
   den = if has_room path chance then path.den * chance.den else 0;
   demands = path.demands;
+  outcome = path.outcome;
 }
 
 -- the path on which nobody has chosen
 abbrev pub root_path : Path
-root_path = record { weight = 1; bound = 1; den = 1; demands = 0 }
+root_path = record { weight = 1; bound = 1; den = 1; demands = 0; outcome = 0 }
 
 -- whether the value at a node of this set is a sum, if it pays this outcome
 abbrev pub is_sum_at : ℕ → Option SetKey → Bool
@@ -44,16 +44,12 @@ is_sum_at own (Some key) = key.player == 0 || nat_lt 0 own
 abbrev pub is_sum : Game → Node → Bool
 is_sum g n = is_sum_at (paid_at_node g n) n.set
 
--- the path to a node
-abbrev pub path_to : Reached → Path
-path_to r = record { weight = r.weight; bound = r.bound; den = r.den; demands = r.demands }
-
 -- whether a path is below a child of probability 0, with no sum since
 abbrev pub is_idle : Path → Bool
 is_idle path = path.bound == 0
 
--- the node at the end of a path that is idle or is not, and at which something is added or is not
-abbrev pub met_if : Bool → Bool → Path → ℕ → Reached
+-- a path up to its last node, if it is idle or is not, and something is added there or is not
+abbrev pub met_if : Bool → Bool → Path → ℕ → Path
 met_if idle adds path own = record {
   weight = path.weight;
   bound = if idle && adds then 1 else path.bound;
@@ -62,13 +58,9 @@ met_if idle adds path own = record {
   outcome = if idle then (if adds then own else 0) else own;
 }
 
--- the node at the end of a path, which starts anew there if it is idle and something is added
-abbrev pub met_node : Game → Path → Node → Reached
+-- a path up to this node, where it starts anew if it is idle and something is added
+abbrev pub met_node : Game → Path → Node → Path
 met_node g path n = met_if (is_idle path) (is_sum g n) path (paid_at_node g n)
-
--- a path from its last node on
-abbrev pub onward : Game → Path → Node → Path
-onward g path n = path_to (met_node g path n)
 
 -- whether chance moves at a node
 abbrev pub is_drawn : Node → Bool
@@ -76,8 +68,13 @@ is_drawn n = option_map_or (λ key. key.player == 0) n.set false
 
 -- a path with other demands
 abbrev pub demanding_path : Path → ℕ → Path
-demanding_path path demands =
-    record { weight = path.weight; bound = path.bound; den = path.den; demands = demands }
+demanding_path path demands = record {
+  weight = path.weight;
+  bound = path.bound;
+  den = path.den;
+  demands = demands;
+  outcome = path.outcome;
+}
 
 -- the path to the child of a node at this position, with these demands, from the node's on
 abbrev pub drawn : Game → Node → Path → ℕ → Path
@@ -86,14 +83,14 @@ drawn g n path k = if is_drawn n then by_chance path (chances_at g n k) else pat
 abbrev pub path_handing : Handing Path
 path_handing = record {
   demands = λ path. path.demands;
-  below = λ g n path k demands. drawn g n (demanding_path (onward g path n) demands) k;
+  below = λ g n path k demands. drawn g n (demanding_path (met_node g path n) demands) k;
 }
 
-abbrev pub node_at : Stop Path → Reached
+abbrev pub node_at : Stop Path → Path
 node_at v = met_node v.game v.state v.node
 
 -- Each set has the step of its digit, or 0 if it has only one action.
-abbrev pub reached : Game → (SetKey → ℕ) → Path → Tree Node → List Reached
+abbrev pub reached : Game → (SetKey → ℕ) → Path → Tree Node → List Path
 reached g steps path t =
     map node_at (descent g (demanding path_handing g steps) path t)
 
@@ -102,6 +99,6 @@ abbrev pub is_personal : SetKey → Bool
 is_personal key = not (key.player == 0)
 
 -- those that choices reach, by the choices alone
-abbrev pub followed : Game → (SetKey → ℕ) → Path → Tree Node → List Reached
+abbrev pub followed : Game → (SetKey → ℕ) → Path → Tree Node → List Path
 followed g choose path t =
     map node_at (descent g (choosing path_handing g is_personal choose) path t)

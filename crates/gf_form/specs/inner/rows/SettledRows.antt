@@ -25,8 +25,8 @@ use Rattle.gf_form.specs.declared.fault.FormFault.{FormFault}
 use Rattle.gf_form.specs.declared.fault.FormFault.TheVariants.{Overflow, TooManyProfiles}
 use Rattle.gf_form.specs.declared.rows.digits.Digit.{Digit}
 use Rattle.gf_form.specs.declared.rows.terms.Terms.{Terms}
-use Rattle.gf_form.specs.declared.rows.written.Asked.{Asked}
-use Rattle.gf_form.specs.declared.rows.written.Run.{Run}
+use Rattle.gf_form.specs.declared.rows.asked.Asked.{Asked}
+use Rattle.gf_form.specs.declared.rows.asked.Run.{Run}
 use Rattle.gf_form.specs.declared.rows.written.Written.{Written}
 
 -- the player, by his place from 0, has this number over this denominator as his value at the

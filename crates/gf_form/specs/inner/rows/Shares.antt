@@ -7,11 +7,9 @@ use Rattle.gf_nfg.specs.Profiles.{product}
 use Rattle.gf_tree.specs.Description.{SetKey, InformationSet}
 use Rattle.gf_tree.specs.Game.{Game, set_at}
 use Rattle.gf_form.specs.inner.rows.Demands.{spans, steps_of}
-use Rattle.gf_form.specs.inner.rows.ReachedNodes.{path_to}
 use Rattle.gf_form.specs.inner.rows.TermLists.{AreExactAt, Term, IsExactAt, number_at, sum_of_terms}
 use Rattle.gf_form.specs.inner.values.Rows.{paid}
 use Rattle.gf_form.specs.declared.rows.paths.Path.{Path}
-use Rattle.gf_form.specs.declared.rows.paths.Reached.{Reached}
 use Rattle.gf_form.specs.declared.rows.share.Share.{Share}
 
 -- What a path adds to a payoff, as a term for one player: probability times payoff. Its size does
@@ -33,34 +31,34 @@ pub record IsShare (e : Term) (den : ℕ) (s : Share) : Type 0 where
   pub bound_is : s.bound ≡ e.head.size * (den / e.head.den)
 
 -- what the node's outcome pays the player
-abbrev pub pay_at : Game → ℕ → Reached → Ratio
+abbrev pub pay_at : Game → ℕ → Path → Ratio
 pay_at g player r = paid g player r.outcome
 
 -- what the node adds for the player
-abbrev pub node_term : Game → ℕ → Reached → Term
-node_term g player r = term_of (path_to r) (pay_at g player r)
+abbrev pub node_term : Game → ℕ → Path → Term
+node_term g player r = term_of r (pay_at g player r)
 
-abbrev pub node_terms : Game → ℕ → List Reached → List Term
+abbrev pub node_terms : Game → ℕ → List Path → List Term
 node_terms g player rs = map (node_term g player) rs
 
 -- what the nodes that these choices, one for each digit, reach come to
-abbrev pub sum_of_shares : Game → ℕ → ℕ → List ℕ → List ℕ → List Reached → ℤ
+abbrev pub sum_of_shares : Game → ℕ → ℕ → List ℕ → List ℕ → List Path → ℤ
 sum_of_shares g player den steps choices rs =
     sum_of_terms 1 den steps choices (node_terms g player rs)
 
 -- what their sizes come to
-abbrev pub met_bounds : Game → ℕ → ℕ → List ℕ → List ℕ → List Reached → ℕ
+abbrev pub met_bounds : Game → ℕ → ℕ → List ℕ → List ℕ → List Path → ℕ
 met_bounds g player den steps choices rs =
     unsigned_abs (sum_of_terms 0 den steps choices (node_terms g player rs))
 
 -- the share of none of them has a remainder
-abbrev pub AreExactShares : Game → ℕ → ℕ → List ℕ → List ℕ → List Reached → Type 0
+abbrev pub AreExactShares : Game → ℕ → ℕ → List ℕ → List ℕ → List Path → Type 0
 AreExactShares g player den steps choices rs =
     AreExactAt den steps choices (node_terms g player rs)
 
 -- over this denominator, no share of the player that these choices reach has a remainder, and all
 -- of these together are within bounds
-pub record FitsAt (g : Game) (player den : ℕ) (steps choices : List ℕ) (rs : List Reached) : Type 0
+pub record FitsAt (g : Game) (player den : ℕ) (steps choices : List ℕ) (rs : List Path) : Type 0
   where
     pub den_above_zero : 0 < den
     pub den_within : den < 2 ^ 127

@@ -3,10 +3,8 @@ use Rattle.std.specs.Prelude.{◌≡◌, ℕ, ◌+◌, ◌*◌, ◌/◌, ◌<◌
 use Rattle.std.specs.Int.{◌∣◌}
 use Rattle.gf_tree.specs.Game.{Game}
 use Rattle.gf_form.specs.inner.rows.TermLists.{ComeAsWell}
-use Rattle.gf_form.specs.inner.rows.ReachedNodes.{path_to}
 use Rattle.gf_form.specs.inner.rows.Shares.{node_terms}
 use Rattle.gf_form.specs.declared.rows.paths.Path.{Path}
-use Rattle.gf_form.specs.declared.rows.paths.Reached.{Reached}
 
 -- the weights and the bounds of the two are added over a denominator that serves both
 pub record IsPathSum (a b sum : Path) : Type 0 where
@@ -18,14 +16,14 @@ pub record IsPathSum (a b sum : Path) : Type 0 where
   pub bound : sum.bound ≡ a.bound * (sum.den / a.den) + b.bound * (sum.den / b.den)
 
 -- all have the same demands and outcome, and the last is the sum of the others, if it is known
-pub record IsNodeSum (r s sum : Reached) : Type 0 where
-  pub first_demands : sum.demands ≡ r.demands
-  pub second_demands : sum.demands ≡ s.demands
-  pub first_outcome : r.outcome ≡ sum.outcome
-  pub second_outcome : s.outcome ≡ sum.outcome
-  pub adds : 0 < sum.den → IsPathSum (path_to r) (path_to s) (path_to sum)
+pub record IsNodeSum (a b sum : Path) : Type 0 where
+  pub first_demands : sum.demands ≡ a.demands
+  pub second_demands : sum.demands ≡ b.demands
+  pub first_outcome : a.outcome ≡ sum.outcome
+  pub second_outcome : b.outcome ≡ sum.outcome
+  pub adds : 0 < sum.den → IsPathSum a b sum
 
 -- the shares of the first are those of the second, over any denominator and at any choices
-abbrev pub HaveSharesOf : List Reached → List Reached → Type 0
+abbrev pub HaveSharesOf : List Path → List Path → Type 0
 HaveSharesOf rs ss = (g : Game) (player : ℕ) → ComeAsWell (node_terms g player rs)
     (node_terms g player ss)

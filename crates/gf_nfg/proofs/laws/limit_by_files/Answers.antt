@@ -1,5 +1,5 @@
-use Rattle.gf_nfg.proofs.lemmas.limit.Passes.{limit_by_files}
-use Rattle.gf_nfg.proofs.lemmas.limit.Worked.{at_second, nowhere}
+use Rattle.gf_nfg.proofs.lemmas.places.Passes.{limit_by_files}
+use Rattle.gf_nfg.proofs.lemmas.places.Judged.{at_second, nowhere}
 use Rattle.gf_nfg.proofs.laws.limit_by_files.Goals as goal
 
 pub returns-clause-of_files : goal.returns-clause-of_files

@@ -6,10 +6,9 @@ use Rattle.gf_nfg.proofs.Common.{Sentence, table_of, is_past, Content, TooManyPr
 use Rattle.gf_nfg.proofs.Common.{finish, within, Lexeme, Spells, Result, length, Table, run, State}
 use Rattle.gf_nfg.proofs.Common.{start, taken, Token, arith, subst, step, List, nat_tests, false}
 use Rattle.gf_nfg.proofs.Common.{◌++◌, Err, Why, sym, ◌<◌, ◌∙◌, ◌∷◌, ◌≡◌, ◌≤◌, Ok, [], ℕ}
-use Rattle.gf_token.specs.inner.Machine as any_format
-use Rattle.gf_token.proofs.Reading.{IsReader}
-use Rattle.gf_token.proofs.Walks.{kept, run_after, run_split, run_whole, then_ok, walk_more}
-use Rattle.gf_token.proofs.Walks.{walk_split}
+use Rattle.gf_token.specs.Offered as any_format
+use Rattle.gf_token.proofs.Offered.{IsReader, kept, run_after, run_split, run_whole, then_ok}
+use Rattle.gf_token.proofs.Offered.{walk_more, walk_split}
 use Rattle.gf_nfg.proofs.lemmas.runs.Ends.{ends, reached}
 use Rattle.gf_nfg.proofs.lemmas.runs.Sentence.{Read, one_table, sentence_again, sentence_found}
 use Rattle.gf_nfg.proofs.lemmas.runs.Common.{Leads, walk}

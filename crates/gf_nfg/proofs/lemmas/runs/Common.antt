@@ -1,6 +1,6 @@
 -- What the lemmas on runs of the machine share.
 use Rattle.gf_nfg.proofs.Common.{List, Ok, Result, State, Token, Why, start, step, ◌≡◌}
-use Rattle.gf_token.specs.inner.Machine as any_format
+use Rattle.gf_token.specs.Offered as any_format
 
 abbrev pub ok_why : {A : Type 0} → A → Result A Why
 ok_why x = Ok x

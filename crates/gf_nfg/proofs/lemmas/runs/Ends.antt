@@ -4,7 +4,7 @@ use Common.{false, true, with_choices, with_payoffs, with_labels, gcd_within, wi
 use Common.{with_title, lowest_of, number_of, count_of, index_of, Content, Closing, Opening, length}
 use Common.{mul-one, le-leb, Ratio, whole, State, Comma, Token, arith, codes, step, Bare, Text, run}
 use Common.{IsSpelled, List, Some, refl, zero, pos, suc, ◌*◌, ◌+◌, ◌∙◌, ◌∷◌, ◌≡◌, at, Ok, [], p, ℕ}
-use Rattle.gf_token.proofs.SpelledTokens.{AllSpelled}
+use Rattle.gf_token.proofs.Offered.{AllSpelled}
 
 -- it can be completed, to this many profiles, by tokens that can be spelled
 pub record Ends (s : State) (profiles : ℕ) : Type 0 where

@@ -8,7 +8,7 @@ use Common.{Position, index_is, index_of, Content, IsIndex, rows_of, Closing, Op
 use Common.{Option, Result, braced, chosen, row_of, length, Comma, Ratio, State, Token, [], arith}
 use Common.{false, ◌>>=◌, Pays, paid, Bare, Bool, Each, List, Some, Text, drop, refl, take, true}
 use Common.{zero, ◌++◌, run, inr, map, suc, ◌*◌, ◌+◌, ◌<◌, ◌∙◌, ◌∷◌, ◌≡◌, ◌≤◌, ◌⊎◌, ap, at, p, ℕ}
-use Rattle.gf_token.proofs.Grammar.{each_both}
+use Rattle.gf_token.proofs.Offered.{each_both}
 use Rattle.gf_nfg.proofs.lemmas.runs.Common.{ok_is}
 use Rattle.gf_nfg.proofs.lemmas.runs.Strategies.{First, all_in, each_parts, groups_found}
 use Rattle.gf_nfg.proofs.lemmas.tables.Lists.{get-joined, joined}

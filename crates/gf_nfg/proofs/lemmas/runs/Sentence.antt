@@ -17,7 +17,7 @@ use Rattle.gf_nfg.proofs.lemmas.runs.Strategies.{heading_found, strategies_again
 use Rattle.gf_nfg.proofs.lemmas.runs.Strategies.{AllSome, heading_leads, heading_line, with_counts}
 use Rattle.gf_nfg.proofs.lemmas.runs.Strategies.{IsGroup, Kind, Strategies, heading, labels_in}
 use Rattle.gf_nfg.proofs.lemmas.tables.Profiles.{length-profiles}
-use Rattle.gf_token.proofs.Walks.{run_after}
+use Rattle.gf_token.proofs.Offered.{run_after}
 
 -- with the body
 abbrev pub filled : Content → List Ratio → List ℕ → Content

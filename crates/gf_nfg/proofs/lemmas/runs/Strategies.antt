@@ -8,8 +8,7 @@ use Common.{mul-one, Option, braced, length, finish, State, start, ◌>>=◌, To
 use Common.{codes, List, Some, Text, refl, zero, ◌++◌, step, map, suc, ◌*◌, ◌+◌, ◌<◌, ◌∙◌}
 use Common.{◌∷◌, ◌≡◌, ◌⊎◌, Ok, [], ap, at, p, ℕ}
 use Rattle.gf_nfg.proofs.lemmas.runs.Common.{Leads, walk}
-use Rattle.gf_token.proofs.RowAnswers.{same_bytes}
-use Rattle.gf_token.proofs.Walks.{run_after, walk_on}
+use Rattle.gf_token.proofs.Offered.{same_bytes, run_after, walk_on}
 use Rattle.gf_nfg.proofs.lemmas.tables.Lists.{joined, length-counted_labels}
 
 -- ---- groups of tokens, one for each of some items

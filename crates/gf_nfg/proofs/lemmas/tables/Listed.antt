@@ -7,9 +7,9 @@ use Common.{SameTable, mul_comm, names_in, table_of, named_by, names_by, Content
 use Common.{length, IsTrue, subst, arith, Ratio, Table, Names, ◌++◌, rows, Some, Bool, true, ◌==◌}
 use Common.{drop, ◌≡◌, ◌<◌, ◌+◌, ◌∷◌, sym, ◌∙◌, ◌↔◌, [], ap, ℕ}
 use Rattle.gf_nfg.specs.inner.ListedTable.{IsListed, IsListing, listed}
-use Rattle.gf_nfg.specs.declared.table.listed.Body.{Body}
-use Rattle.gf_nfg.specs.declared.table.listed.Body.TheVariants.{InTurn}
-use Rattle.gf_nfg.specs.declared.table.listed.Listing.{Listing}
+use Rattle.gf_nfg.specs.declared.listed.Body.{Body}
+use Rattle.gf_nfg.specs.declared.listed.Body.TheVariants.{InTurn}
+use Rattle.gf_nfg.specs.declared.listed.Listing.{Listing}
 use Rattle.gf_nfg.specs.declared.comparison.Comparison.{Comparison}
 use Rattle.gf_nfg.proofs.lemmas.tables.Lists.{joined, rows_again, rows_in_turn}
 use Rattle.gf_nfg.proofs.lemmas.tables.Meaning.{is_table, profiles_counted, rows-table_of}

@@ -4,7 +4,7 @@ use Rattle.gf_nfg.proofs.Common.{◌∙◌, arith, Vec, rows_of, AllByRecursion,
 use Rattle.gf_nfg.proofs.Common.{length-map, label_of, Label, Ratio, IsFraction, all_both}
 use Rattle.gf_nfg.proofs.Common.{all_joined, all_lists, profile_limit, product, IsTableOf, AreParts}
 use Rattle.gf_nfg.proofs.Common.{AreSpellings, IsHeld, IsTable, Names, rows, table_with}
-use Rattle.gf_nfg.proofs.lemmas.tables.LabelsJoined.{labels_spelled}
+use Rattle.gf_nfg.proofs.lemmas.tables.LabelLists.{labels_spelled}
 use Rattle.gf_nfg.proofs.lemmas.tables.Lists.{full_in_turn, joined, length-rows_of, rows_in_turn}
 use Rattle.gf_nfg.proofs.lemmas.tables.Rows.{entries_counted, is_table, rows-table_with}
 

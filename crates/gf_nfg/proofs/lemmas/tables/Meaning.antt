@@ -34,12 +34,7 @@ strategies_of-joined lists h = grind arith
 pub has_rows : (c : Content) (choices : List ℕ) → HasPayoffs c choices
     → HasRows (length c.players) c.profiles c.payoffs choices
 has_rows c [] h = h ∙ mul_comm (length c.players) c.profiles
-has_rows c (k ∷ choices) h = (
-  h.2,
-  all_weaker (λ n. n ≤ h.0) (λ n. n * length c.players ≤ length c.payoffs)
-      (λ n less. grind (arith, mul-le-mul_right (length c.players) less, mul_comm)) (k ∷ choices)
-      h.3,
-)
+has_rows c (k ∷ choices) h = (h.0, h.1 ∙ mul_comm (length c.players) h.0, h.2, h.3)
 
 pub ruleset rows_of_parts = (has_rows, length-map)
 
@@ -50,7 +45,7 @@ module _ (c : Content) (h : IsComplete c) where
   rs = rows_by c c.choices
 
   rows_counted : length rs ≡ c.profiles
-  rows_counted = kept.rows_counted (length c.players) c.profiles c.payoffs _ c.choices
+  rows_counted = kept.rows_counted (length c.players) c.profiles c.payoffs c.choices
       (has_rows c c.choices h.has_rows)
 
   pub profiles_counted : c.profiles ≡ product (map length (names_in c).strategies)

@@ -1,13 +1,13 @@
 -- The rows of a table.
-use Rattle.gf_nfg.proofs.Common.{◌≡◌, length, get_or, subst, arith, all_at, no_pay, row_of, HasRows}
-use Rattle.gf_nfg.proofs.Common.{ℕ, zero, List, Some, refl, Ratio, whole, Entry, Table, rows, Names}
-use Rattle.gf_nfg.proofs.Common.{suc, ◌+◌, ◌*◌, ◌<◌, ◌≤◌, ◌/◌, [], ◌∷◌, map, sym, ap, ◌∙◌, pos, Vec}
-use Rattle.gf_nfg.proofs.Common.{slice_get, unwrap_or, profiles, entries_of, table_with, all_weaker}
-use Rattle.gf_nfg.proofs.Common.{vec_len, product, IsTable, kept_row, kept_rows, rows_of, AreShared}
-use Rattle.gf_nfg.proofs.Common.{AllByRecursion, mul-le-mul_left, slice_get-map, slice_get-get_or}
-use Rattle.gf_nfg.proofs.Common.{length-take, length-replicate, mul-le-mul_right, le-div_iff_mul-le}
-use Rattle.gf_nfg.proofs.Common.{length-drop, length-map, all_images, profile_limit, IsWithinLimit}
-use Rattle.std.proofs.Common.{add-one}
+use Rattle.gf_nfg.proofs.Common
+use Common.{get_or_from_slice_get, AllByRecursion, mul-le-mul_left, mul-le-mul_right, IsWithinLimit}
+use Common.{length-replicate, slice_get-get_or, profile_limit, slice_get-map, length-take, no_pay}
+use Common.{length-drop, chosen_rows, AreNumbered, table_with, all_images, all_weaker, length-map}
+use Common.{entries_of, kept_rows, AreShared, slice_get, unwrap_or, profiles, AreFull, HasRows}
+use Common.{vec_len, product, rows_of, length, get_or, row_of, IsTable, arith, Entry, Ratio, Table}
+use Common.{mul-suc, all_at, subst, whole, Names, take, drop, rows, zero, List, Some, refl, suc}
+use Common.{map, ◌≢◌, sym, pos, Vec, ◌≡◌, ◌∷◌, ◌∙◌, ◌<◌, ◌≤◌, ◌+◌, ◌-◌, ◌*◌, ◌/◌, ap, [], ℕ}
+use Rattle.std.proofs.Math.Nat.{mul-div_cancel}
 use Rattle.gf_nfg.proofs.lemmas.tables.Profiles.{length-profiles}
 use Rattle.gf_nfg.proofs.lemmas.tables.Lists.{full_in_turn, get-rows_of, joined, length-rows_of}
 use Rattle.gf_nfg.proofs.lemmas.tables.Lists.{product_above_zero, rows_in_turn}
@@ -53,91 +53,148 @@ entries_counted t h =
 
 -- ---- rows by their numbers
 
-pub rows_counted : (players count : ℕ) (payoffs zeros : List Ratio) (numbers : List ℕ)
+pub rows_counted : (players count : ℕ) (payoffs : List Ratio) (numbers : List ℕ)
     → HasRows players count payoffs numbers
-    → length (kept_rows players count payoffs zeros numbers) ≡ count
-rows_counted players count payoffs zeros [] h = length-rows_of players count payoffs
-rows_counted players count payoffs zeros (k ∷ numbers) h = grind (arith, length-map)
+    → length (kept_rows players count payoffs numbers) ≡ count
+rows_counted players count payoffs [] h = length-rows_of players count payoffs
+rows_counted players count payoffs (k ∷ numbers) h = grind (arith, length-map)
 
-full_row : (players : ℕ) (payoffs : List Ratio) (number : ℕ) → number * players ≤ length payoffs
-    → length (row_of players payoffs number) ≡ players
-full_row players payoffs zero h = length-replicate players (whole (pos 0))
-full_row players payoffs (suc k) h = grind (arith, length-take, length-drop)
+full_row : (players outcomes : ℕ) (payoffs : List Ratio) → length payoffs ≡ outcomes * players
+    → (number : ℕ) → number ≤ outcomes → length (row_of players payoffs number) ≡ players
+full_row players outcomes payoffs h zero less = length-replicate players (whole (pos 0))
+full_row players outcomes payoffs h (suc k) less =
+    let fits = mul-le-mul_right players less in grind (arith, length-take, length-drop)
 
 pub full_rows : (players count : ℕ) (payoffs : List Ratio) (numbers : List ℕ)
     → HasRows players count payoffs numbers → AllByRecursion (λ row. length row ≡ players)
-    (kept_rows players count payoffs (no_pay players) numbers)
+    (kept_rows players count payoffs numbers)
 full_rows players count payoffs [] h = full_in_turn players count payoffs h
 full_rows players count payoffs (k ∷ numbers) h =
     all_images (λ row. length row ≡ players) (row_of players payoffs) (k ∷ numbers)
-    (all_weaker (λ number. number * players ≤ length payoffs)
-    (λ number. length (row_of players payoffs number) ≡ players) (full_row players payoffs)
-    (k ∷ numbers) h.1)
+    (all_weaker (λ n. n ≤ h.0) (λ n. length (row_of players payoffs n) ≡ players)
+    (full_row players h.0 payoffs h.1) (k ∷ numbers) h.3)
 
--- without numbers the rows are the payoffs, and each has some if there are players
-pub in_turn : (players count : ℕ) (payoffs zeros : List Ratio) (numbers : List ℕ)
-    (rs : List (List Ratio)) → numbers ≡ [] → HasRows players count payoffs numbers
-    → kept_rows players count payoffs zeros numbers ≡ rs → payoffs ≡ joined rs
-in_turn players count payoffs zeros numbers rs none h view = grind (arith, rows_in_turn)
+-- ---- rows that are kept
 
-pub paid_in_turn : (players count : ℕ) (payoffs zeros : List Ratio) (numbers : List ℕ)
-    (rs : List (List Ratio)) → numbers ≡ [] → HasRows players count payoffs numbers
-    → kept_rows players count payoffs zeros numbers ≡ rs → 0 < players
-    → AllByRecursion (λ row. 0 < length row) rs
-paid_in_turn players count payoffs zeros [] rs none h view some =
-    subst (λ qs. AllByRecursion (λ row. 0 < length row) qs) view
-    (all_weaker (λ row. length row ≡ players) (λ row. 0 < length row)
-    (λ row is. omega (arith, is, some)) (rows_of players count payoffs)
-    (full_in_turn players count payoffs h))
-paid_in_turn players count payoffs zeros (k ∷ numbers) rs none h view some = absurd cc
+width : (players number : ℕ) → number ≢ 0 → number * players - (number - 1) * players ≡ players
+width players zero some = absurd (some refl)
+width players (suc k) some = grind (arith, mul-suc)
 
-pub ruleset payoffs_in_turn = (in_turn, paid_in_turn)
+module _ (players count : ℕ) (payoffs zeros : List Ratio) (rs : List (List Ratio)) (number : ℕ)
+    (full : AreFull players count payoffs) (view : zeros ∷ rows_of players count payoffs ≡ rs)
+    (less : number < length rs) where
+  at_most : number ≤ count
+  at_most = grind (arith, length-rows_of)
 
--- the row at a place has this number
-pub record IsRow (players : ℕ) (payoffs zeros : List Ratio) (rs : List (List Ratio))
-    (place number : ℕ) : Type 0 where
-  pub within : number * players ≤ length payoffs
-  pub there : slice_get rs place ≡ Some (kept_row players payoffs zeros number)
+  pub row_within : number * players ≤ length payoffs
+  row_within = let fits = mul-le-mul_right players at_most in omega (arith, fits, full.full)
 
-row_at : (players count : ℕ) (payoffs zeros : List Ratio) (numbers : List ℕ) (place : ℕ)
-    → HasRows players count payoffs numbers → place < count → IsRow players payoffs zeros
-    (kept_rows players count payoffs zeros numbers) place
-    (unwrap_or (slice_get numbers place) (place + 1))
-row_at players count payoffs zeros [] place h less =
-    let some : place + 1 ≤ count = omega (arith, less) in
-    let fits = mul-le-mul_right players some in
+  pub row_there : number ≢ 0 → slice_get rs number ≡ Some
+      (take (number * players - (number - 1) * players) (drop ((number - 1) * players) payoffs))
+  row_there some =
+      let there = get-rows_of players count payoffs (number - 1) (omega (arith, at_most, some)) in
+      grind (arith, width)
+
+pub ruleset numbered = (full_in_turn, length-rows_of, row_there, row_within, rows_in_turn)
+
+-- without players all rows are empty
+none_paid : (payoffs : List Ratio) (choices : List ℕ)
+    → rows_of 0 (length choices) payoffs ≡ map (row_of 0 payoffs) choices
+none_paid payoffs [] = refl
+none_paid payoffs (zero ∷ choices) = ap (λ rs. [] ∷ rs) (none_paid payoffs choices)
+none_paid payoffs (suc k ∷ choices) = ap (λ rs. [] ∷ rs) (none_paid payoffs choices)
+
+pub in_turn : (players count : ℕ) (payoffs : List Ratio) (choices : List ℕ)
+    → HasRows players count payoffs choices → (0 < players → length choices ≡ 0)
+    → (length payoffs ≡ count * players)
+    × (rows_of players count payoffs ≡ kept_rows players count payoffs choices)
+in_turn players count payoffs [] h e = (h, refl)
+in_turn players count payoffs (k ∷ choices) h e = grind (arith, none_paid)
+
+-- the rows of outcomes by their numbers
+outcome_row : (players outcomes : ℕ) (payoffs : List Ratio) (k : ℕ) → k ≤ outcomes
+    → get_or (no_pay players ∷ rows_of players outcomes payoffs) k [] ≡ row_of players payoffs k
+outcome_row players outcomes payoffs zero h = refl
+outcome_row players outcomes payoffs (suc k) h =
+    get_or_from_slice_get (rows_of players outcomes payoffs) k
+    (take players (drop (k * players) payoffs)) [] (get-rows_of players outcomes payoffs k h)
+
+outcome_rows : (players outcomes : ℕ) (payoffs : List Ratio) (choices : List ℕ)
+    → AllByRecursion (λ n. n ≤ outcomes) choices
+    → map (λ n. get_or (no_pay players ∷ rows_of players outcomes payoffs) n []) choices
+    ≡ map (row_of players payoffs) choices
+outcome_rows players outcomes payoffs [] h = refl
+outcome_rows players outcomes payoffs (k ∷ choices) h =
+    (λ i. outcome_row players outcomes payoffs k h.0 i
+    ∷ outcome_rows players outcomes payoffs choices h.1 i)
+
+pub record AreOutcomes (players count : ℕ) (payoffs : List Ratio) (choices : List ℕ) (outcomes : ℕ)
+    : Type 0 where
+  pub full : length payoffs ≡ outcomes * players
+  pub numbered : AreNumbered count (no_pay players ∷ rows_of players outcomes payoffs) choices
+  pub are : chosen_rows (no_pay players ∷ rows_of players outcomes payoffs) choices
+      ≡ kept_rows players count payoffs choices
+
+pub by_outcomes : (players count : ℕ) (payoffs : List Ratio) (choices : List ℕ) (size : ℕ)
+    → HasRows players count payoffs choices → 0 < players → 0 < length choices
+    → size ≡ length payoffs → AreOutcomes players count payoffs choices (size / players)
+by_outcomes players count payoffs [] size h some chosen is = absurd (omega (arith, chosen))
+by_outcomes players count payoffs (k ∷ choices) size h some chosen is =
+    let outcomes = size / players in
+    let same : outcomes ≡ h.0 =
+    ap (λ n. n / players) (is ∙ h.1) ∙ mul-div_cancel h.0 some in
     record {
-      within = omega (arith, h, fits);
-      there = rw add-one (get-rows_of players count payoffs place less);
+      full = rw same h.1;
+      numbered = record {
+        counted = grind (arith, length-map);
+        below = all_weaker (λ n. n ≤ h.0)
+            (λ n. n < length (no_pay players ∷ rows_of players outcomes payoffs))
+            (λ n less. grind (arith, length-rows_of)) (k ∷ choices) h.3;
+      };
+      are = outcome_rows players outcomes payoffs (k ∷ choices)
+          (subst (λ m. AllByRecursion (λ n. n ≤ m) (k ∷ choices)) (sym same) h.3);
     }
-row_at players count payoffs zeros (k ∷ numbers) place h less =
-    grind (arith, all_at, slice_get-get_or (k ∷ numbers) place 0, slice_get-map)
 
-pub is_row : (players count : ℕ) (payoffs zeros : List Ratio) (numbers : List ℕ)
-    (rs : List (List Ratio)) (place number : ℕ) → HasRows players count payoffs numbers
-    → kept_rows players count payoffs zeros numbers ≡ rs → place < length rs
-    → number ≡ unwrap_or (slice_get numbers place) (place + 1)
-    → IsRow players payoffs zeros rs place number
-is_row players count payoffs zeros numbers rs place number h view less is =
-    let size = rows_counted players count payoffs zeros numbers h in
-    let there = row_at players count payoffs zeros numbers place h in
-    grind arith
+pub ruleset rows_made = (in_turn, by_outcomes)
 
--- ---- rows that profiles share
+-- ---- rows of profiles
 
-pub are_shared : (players count : ℕ) (payoffs zeros : List Ratio) (numbers : List ℕ)
-    (rs : List (List Ratio)) → HasRows players count payoffs numbers
-    → kept_rows players count payoffs zeros numbers ≡ rs → 0 < players → 0 < length numbers
-    → AreShared rs numbers players payoffs zeros (length payoffs / players + 1)
-are_shared players count payoffs zeros [] rs kept view some chosen = absurd (omega (arith, chosen))
-are_shared players count payoffs zeros (k ∷ numbers) rs kept view some chosen = record {
-  rows_are = sym view;
-  below = all_weaker (λ number. number * players ≤ length payoffs)
-      (λ number. number < length payoffs / players + 1)
-      (λ number fits. let most = (le-div_iff_mul-le some).1 fits in omega (arith, most))
-      (k ∷ numbers) kept.1;
-  kept = λ number less. (le-div_iff_mul-le some).0 (omega (arith, less));
-}
+-- the row at a place is the one with its number
+module _ (count : ℕ) (rows all : List (List Ratio)) (place number : ℕ) where
+  pub row_chosen : (numbers : List ℕ) → AreNumbered count rows numbers
+      → chosen_rows rows numbers ≡ all → place < length all
+      → number ≡ unwrap_or (slice_get numbers place) (place + 1)
+      → (number < length rows) × (slice_get all place ≡ slice_get rows number)
+  row_chosen [] h view less is = grind (arith, length-drop)
+  row_chosen (k ∷ numbers) h view less is =
+      let within : place < length (k ∷ numbers) = grind (arith, length-map) in
+      let same : number ≡ get_or (k ∷ numbers) place 0 =
+      grind (arith, slice_get-get_or (k ∷ numbers) place 0) in
+      grind (arith, all_at, slice_get-get_or, slice_get-map)
+
+pub are_shared : (count : ℕ) (rows all : List (List Ratio)) (numbers : List ℕ)
+    → AreNumbered count rows numbers → chosen_rows rows numbers ≡ all → 0 < length numbers
+    → AreShared all rows numbers
+are_shared count rows all [] h view some = absurd (omega (arith, some))
+are_shared count rows all (k ∷ numbers) h view some =
+    record { rows_are = sym view; below = h.below }
+
+-- each has some payoffs if there are players
+pub some_paid : (players : ℕ) (rows all : List (List Ratio)) (numbers : List ℕ) → 0 < players
+    → AllByRecursion (λ row. length row ≡ players) (drop 1 rows)
+    → chosen_rows rows numbers ≡ all → length numbers ≡ 0
+    → (drop 1 rows ≡ all) × AllByRecursion (λ row. 0 < length row) all
+some_paid players rows all [] some full view none = (
+  view,
+  subst (λ qs. AllByRecursion (λ row. 0 < length row) qs) view
+      (all_weaker (λ row. length row ≡ players) (λ row. 0 < length row)
+      (λ row is. omega (arith, is, some)) (drop 1 rows) full),
+)
+some_paid players rows all (k ∷ numbers) some full view none = absurd (omega (arith, none))
+
+pub ruleset payoffs_in_turn = (some_paid)
+
+pub ruleset numbers_chosen = (are_shared, row_chosen)
 
 -- ---- a table's counts
 

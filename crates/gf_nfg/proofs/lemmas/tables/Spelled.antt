@@ -6,9 +6,9 @@ use Rattle.gf_nfg.proofs.Common.{replicate, flat_map, IsSpelled, IsFraction, all
 use Rattle.gf_nfg.proofs.Common.{decimal, IsLabel, Closing, all_parts, all_both, IsTable, Sentence}
 use Rattle.gf_nfg.proofs.Common.{AllByRecursion, IsPayoffInBraces, IsOutcomeInBraces, IsOutcomeBody}
 use Rattle.gf_nfg.proofs.Common.{numbers_from, IsSpellable, IsLabelList, IsPayoffBody, SpellsTable}
-use Rattle.gf_token.proofs.SpelledTokens.{AllSpelled, all_spelled, braced_spelled, comment_spelled}
-use Rattle.gf_fraction.proofs.WholeNumbers.{whole_fraction}
-use Rattle.gf_nfg.proofs.lemmas.tables.LabelsCounted.{decimal_label}
+use Rattle.gf_token.proofs.Offered.{AllSpelled, all_spelled, braced_spelled, comment_spelled}
+use Rattle.gf_fraction.proofs.Offered.{whole_fraction}
+use Rattle.gf_nfg.proofs.lemmas.tables.LabelLists.{decimal_label}
 
 -- ---- labels
 

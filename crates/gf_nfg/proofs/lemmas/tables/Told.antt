@@ -1,7 +1,7 @@
 -- What was told of a file, and was kept or written, means its table.
 use Rattle.gf_nfg.proofs.Common.{◌≡◌, ℕ, List, [], subst, content_of, content_told, Told}
 use Rattle.gf_nfg.proofs.Common.{HasToldTable, MeansTable, Heading, Payoffs}
-use Rattle.gf_nfg.specs.declared.reader.receive.Kept.{Kept}
+use Rattle.gf_nfg.specs.declared.receive.Kept.{Kept}
 
 pub told_table : {T : Type 0} (holds : T → Told → Type 0) (bytes : List ℕ) (heading : Heading)
     (to : T) (told : Told) → told.heading ≡ heading → MeansTable bytes (content_told told)

@@ -6,7 +6,7 @@ use Rattle.gf_nfg.proofs.Common.{Result, table_text, selten_text, no_players, gc
 use Rattle.gf_nfg.proofs.Common.{SpellsTable, selten_by_counts, selten_by_outcomes, no_players_text}
 use Rattle.std.specs.Fmt.{digits}
 use Rattle.gf_fraction.specs.NumberText.{number_text}
-use Rattle.gf_token.specs.inner.Lexing.{lex}
+use Rattle.gf_token.specs.Offered.{lex}
 use Rattle.gf_nfg.proofs.lemmas.runs.Sentence.{sentence_found}
 
 -- ---- texts

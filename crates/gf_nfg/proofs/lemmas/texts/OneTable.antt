@@ -5,9 +5,8 @@ use Rattle.gf_nfg.proofs.Common.{Each, braced, number_spelled, Ratio, IsFraction
 use Rattle.gf_nfg.proofs.Common.{all_weaker, all_parts, all_lists, Table, IsTable, IsSpellable}
 use Rattle.gf_nfg.proofs.Common.{rows, IsLabelList, IsPayoff, IsPayoffBody, Sentence, row_text}
 use Rattle.gf_nfg.proofs.Common.{list_text, quoted, table_text, SpellsTable, SameTable}
-use Rattle.gf_token.proofs.Grammar.{each_group}
-use Rattle.gf_token.proofs.LaidOut.{Tells, both, each_field, empty, fields, label, labels, line}
-use Rattle.gf_token.proofs.LaidOut.{lines, list, says_list, says_word, word}
+use Rattle.gf_token.proofs.Offered.{each_group, Tells, both, each_field, empty, fields, label}
+use Rattle.gf_token.proofs.Offered.{labels, line, lines, list, says_list, says_word, word}
 use Rattle.gf_fraction.specs.NumberText.{number_text}
 use Rattle.gf_nfg.proofs.lemmas.places.Led.{spells_one_table}
 use Rattle.gf_nfg.proofs.lemmas.tables.Spelled.{spelled_is_spellable}

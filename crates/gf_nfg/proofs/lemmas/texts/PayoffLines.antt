@@ -1,9 +1,9 @@
 -- The lines of payoffs.
-use Rattle.gf_nfg.proofs.Common.{◌≡◌, ℕ, ◌-◌, ◌<◌, ◌≤◌, List, [], ◌∷◌, ◌++◌, length, map, refl, sym}
-use Rattle.gf_nfg.proofs.Common.{append_assoc, arith, true, Bool, AllByRecursion, flat_map-append}
-use Rattle.gf_nfg.proofs.Common.{Ratio, Table, rows, Names, first_line, IsTable, heading_text}
-use Rattle.gf_nfg.proofs.Common.{line_text, lines_text, list_text, lt-ltb, named_by, names_by}
-use Rattle.gf_nfg.proofs.Common.{nat_tests, quoted, row_text, table_text}
+use Rattle.gf_nfg.proofs.Common
+use Common.{flat_map-append, AllByRecursion, length-append, heading_text, append_assoc, first_line}
+use Common.{lines_text, table_text, line_text, list_text, nat_tests, drop_more, named_by, names_by}
+use Common.{row_text, drop_all, IsTable, lt-ltb, quoted, length, arith, Ratio, Table, Names, whole}
+use Common.{rows, drop, true, Bool, List, refl, map, sym, pos, ◌++◌, ◌≡◌, ◌∷◌, ◌-◌, ◌<◌, ◌≤◌, [], ℕ}
 use Rattle.gf_nfg.specs.inner.TextParts.{payoffs_text}
 use Rattle.gf_fraction.specs.NumberText.{number_text}
 use Rattle.gf_nfg.proofs.lemmas.tables.Lists.{joined}
@@ -18,6 +18,16 @@ payoff_on width left n more h = rw (lt-ltb 1 left h) refl
 pub payoff_last : (width left : ℕ) (n : Ratio) (more : List Ratio) → left ≤ 1
     → payoffs_text width left (n ∷ more) ≡ number_text n ++ 10 ∷ payoffs_text width width more
 payoff_last width left n more h = grind (arith, nat_tests)
+
+pub ruleset payoff_written = (append_assoc, length-append, payoff_last, payoff_on)
+
+-- a text of payoffs has bytes
+pub some_text : (width left written : ℕ) (payoffs : List Ratio) → written < length payoffs
+    → 0 < length (payoffs_text width left (drop written payoffs))
+some_text width left written payoffs h =
+    rw (drop_more payoffs written (whole (pos 0)) h) (grind (arith, length-append))
+
+pub ruleset payoffs_on = (drop_all, drop_more, some_text)
 
 -- ---- full rows
 

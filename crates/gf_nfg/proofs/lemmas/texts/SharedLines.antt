@@ -1,18 +1,20 @@
 -- Lines of rows that profiles share.
 use Rattle.gf_nfg.proofs.Common.{◌≡◌, ℕ, ◌+◌, ◌<◌, List, [], ◌∷◌, ◌++◌, length, map, drop, get_or}
-use Rattle.gf_nfg.proofs.Common.{append_assoc, at_drop_more, refl, sym, ap, ◌∙◌, arith}
+use Rattle.gf_nfg.proofs.Common.{append_assoc, at_drop_more, refl, arith, take, Some, slice_get, ap}
 use Rattle.gf_nfg.proofs.Common.{length-append, AllByRecursion, get_or-map, length-map, map-append}
-use Rattle.gf_nfg.proofs.Common.{get_or_from_slice_get, Ratio, numbers_from, line_text, lines_with}
-use Rattle.gf_nfg.proofs.Common.{row_text, lines_text, AreShared, kept_row, subst}
-use Rattle.gf_nfg.proofs.lemmas.tables.NumbersInTurn.{get_or-numbers_from, length-numbers_from}
-use Rattle.gf_nfg.proofs.lemmas.tables.NumbersInTurn.{numbers_joined}
-
--- ---- the lines
+use Rattle.gf_nfg.proofs.Common.{get_or_from_slice_get, Ratio, line_text, lines_with}
+use Rattle.gf_nfg.proofs.Common.{row_text, lines_text, subst, sym, ◌∙◌}
+use Rattle.gf_nfg.proofs.lemmas.tables.LabelLists.{one_taken_at}
 
 -- that of one more row
-pub lines_more : {A : Type 0} (f : ℕ → A) (number : ℕ)
-    → map f (numbers_from 0 (number + 1)) ≡ map f (numbers_from 0 number) ++ f number ∷ []
-lines_more f number = grind (arith, map-append, numbers_joined 0 number 1)
+pub line_more : (rows : List (List Ratio)) (number : ℕ) (row : List Ratio)
+    → slice_get rows number ≡ Some row
+    → map line_text (take (number + 1) rows)
+    ≡ map line_text (take number rows) ++ line_text row ∷ []
+line_more rows number row found =
+    rw (one_taken_at rows number row found) (map-append line_text (take number rows) (row ∷ []))
+
+pub ruleset lines_more = (line_more)
 
 -- ---- chosen lines
 
@@ -24,41 +26,21 @@ chosen_next lines numbers at h = at_drop_more (lines_with lines) numbers at 0 h
 
 pub ruleset next_chosen = (append_assoc, chosen_next, get_or_from_slice_get, length-append)
 
-line_there : (row : ℕ → List Ratio) (bound number : ℕ) → number < bound
-    → get_or (map (λ n. line_text (row n)) (numbers_from 0 bound)) number []
-    ≡ line_text (row number)
-line_there row bound number h =
-    let within : number < length (numbers_from 0 bound) = omega (arith, length-numbers_from) in
-    let from : 0 + number ≡ number = omega arith in
-    get_or-map (λ n. line_text (row n)) (numbers_from 0 bound) number 0 [] within
-    ∙ ap (λ n. line_text (row n)) (get_or-numbers_from 0 bound number 0 h ∙ from)
-
 -- each of these numbers is that of a line
-pub numbers_within : (row : ℕ → List Ratio) (bound : ℕ) (lines : List (List ℕ)) (numbers : List ℕ)
-    → lines ≡ map (λ n. line_text (row n)) (numbers_from 0 bound)
-    → AllByRecursion (λ number. number < bound) numbers
-    → AllByRecursion (λ number. number < length lines) numbers
-numbers_within row bound lines numbers are below =
-    let size : bound ≡ length lines =
-    cc (length-map (numbers_from 0 bound) (λ n. line_text (row n)), length-numbers_from 0 bound) in
-    subst (λ (n : ℕ). AllByRecursion (λ number. number < n) numbers) size below
+pub numbers_within : (rows : List (List Ratio)) (numbers : List ℕ)
+    → AllByRecursion (λ number. number < length rows) numbers
+    → AllByRecursion (λ number. number < length (map line_text rows)) numbers
+numbers_within rows numbers below =
+    subst (λ (n : ℕ). AllByRecursion (λ number. number < n) numbers)
+    (sym (length-map rows line_text)) below
 
 -- the lines of all profiles
-pub lines_chosen : (row : ℕ → List Ratio) (bound : ℕ) (numbers : List ℕ)
-    → AllByRecursion (λ number. number < bound) numbers
-    → lines_with (map (λ n. line_text (row n)) (numbers_from 0 bound)) numbers
-    ≡ lines_text (map row_text (map row numbers))
-lines_chosen row bound [] h = refl
-lines_chosen row bound (number ∷ numbers) h =
-    (λ i. line_there row bound number h.0 i ++ lines_chosen row bound numbers h.1 i)
+pub lines_chosen : (rows : List (List Ratio)) (numbers : List ℕ)
+    → AllByRecursion (λ number. number < length rows) numbers
+    → lines_with (map line_text rows) numbers
+    ≡ lines_text (map row_text (map (λ n. get_or rows n []) numbers))
+lines_chosen rows [] h = refl
+lines_chosen rows (number ∷ numbers) h =
+    grind (arith, get_or-map line_text rows number [] [] h.0, lines_chosen rows numbers h.1)
 
--- the lines of rows that profiles share
-module _ (rows : List (List Ratio)) (numbers : List ℕ) (players : ℕ) (payoffs zeros : List Ratio)
-    (bound : ℕ) (lines : List (List ℕ)) (h : AreShared rows numbers players payoffs zeros bound)
-    (are : lines ≡ map (λ n. line_text (kept_row players payoffs zeros n)) (numbers_from 0 bound))
-  where
-    pub shared_lines : lines_with lines numbers ≡ lines_text (map row_text rows)
-    shared_lines =
-        ap (λ (ls : List (List ℕ)). lines_with ls numbers) are
-        ∙ lines_chosen (kept_row players payoffs zeros) bound numbers h.below
-        ∙ ap (λ (rs : List (List Ratio)). lines_text (map row_text rs)) (sym h.rows_are)
+pub ruleset shared_lines = (lines_chosen, numbers_within)

@@ -5,25 +5,12 @@ use Common.{append-nil, all_weaker, IsComplete, content_of, lines_text, table_te
 use Common.{laid_lines, names_in, table_of, named_by, names_by, row_text, mul_comm, Outcomes, arith}
 use Common.{Content, rows_by, rows_of, AreLaid, HasText, Heading, Payoffs, length, Ratio, Table, []}
 use Common.{zero, Bool, List, ◌++◌, refl, ◌*◌, ◌<◌, ◌∷◌, map, sym, ◌∙◌, ap, ℕ}
-use Rattle.gf_fraction.specs.NumberText.{number_text}
 use Rattle.gf_nfg.specs.inner.TextParts.{payoffs_text}
 use Rattle.gf_nfg.specs.declared.text.Text.{Text}
-use Rattle.gf_nfg.specs.declared.reader.receive.Version.{Version}
+use Rattle.gf_nfg.specs.declared.receive.Version.{Version}
 use Rattle.gf_nfg.proofs.lemmas.tables.Lists.{full_in_turn, no_counts, rows_in_turn}
 use Rattle.gf_nfg.proofs.lemmas.tables.Meaning.{rows-table_of}
 use Rattle.gf_nfg.proofs.lemmas.texts.PayoffLines.{rows_laid, text_parts}
-
--- ---- one more payoff
-
-pub laid_more : {width left next : ℕ} {heading text out : List ℕ} {payoffs : List Ratio}
-    (end : ℕ) (n : Ratio)
-    → ((more : List Ratio)
-    → payoffs_text width left (n ∷ more) ≡ number_text n ++ end ∷ payoffs_text width next more)
-    → out ≡ text ++ (number_text n ++ end ∷ []) → AreLaid width left heading text payoffs
-    → AreLaid width next heading out (payoffs ++ n ∷ [])
-laid_more {width} {left} {next} {heading} {text} {out} {payoffs} end n step e l = record {
-  with_more = λ more. grind (arith, append_assoc, l.with_more (n ∷ more), step more);
-}
 
 -- ---- the lines of all payoffs
 

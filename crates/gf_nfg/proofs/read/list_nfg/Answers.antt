@@ -2,9 +2,6 @@ use Rattle.gf_nfg.proofs.lemmas.places.Judged.{memory_at_end}
 use Rattle.gf_nfg.proofs.lemmas.places.Led.{spells_one_table}
 use Rattle.gf_nfg.proofs.read.list_nfg.Goals as goal
 
-pub told-requires : goal.told-requires
-told-requires c = (c.args.input.now, c.in_ok-heading.ensures.told)
-
 pub returns-in-Ok-clause-spelled : goal.returns-in-Ok-clause-spelled
 returns-in-Ok-clause-spelled c = (c.in-Ok.ensures _ c.in_ok-heading.ensures.told).0
 

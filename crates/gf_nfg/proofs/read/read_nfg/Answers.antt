@@ -4,9 +4,6 @@ use Rattle.gf_nfg.proofs.lemmas.places.Led.{spells_one_table}
 use Rattle.gf_nfg.proofs.lemmas.tables.Told.{kept_means}
 use Rattle.gf_nfg.proofs.read.read_nfg.Goals as goal
 
-pub into_table-requires : goal.into_table-requires
-into_table-requires c = (c.args.input.now, kept_means _ _ _ c.in_ok-heading.ensures.told)
-
 pub returns-in-Ok-clause-only : goal.returns-in-Ok-clause-only
 returns-in-Ok-clause-only c = λ t spells within.
     c.in-Ok.ensures

@@ -1,5 +1,80 @@
-use Rattle.gf_run.proofs.KeptBytes.{kept_whole}
+use Rattle.std.proofs.Common.{append-nil, Option, Some, None, Ok, Err, inl, inr, ap, arith, subst}
+use Rattle.std.proofs.Common.{sym}
+use Rattle.std.proofs.Common.{◌≡◌, ◌∙◌, ℕ, List, [], ◌++◌, take, zero, suc, append_assoc}
+use Rattle.std.specs.Prelude.{◌⊎◌}
+use Rattle.std.specs.declared.io.Error.{Error}
+use Rattle.gf_run.specs.Input.{IsReadWhole}
+use Rattle.gf_run.specs.Kept.{Keeps, bytes_kept, kept_reader}
+use Rattle.gf_run.specs.Streams.{Reader}
+use Rattle.gf_run.specs.Turns.{Interruptions, Moves, Transfers, none, more}
+use Rattle.gf_run.specs.declared.streams.kept.Kept.{Kept}
 use Rattle.gf_run.proofs.laws.kept_is_read.Goals as goal
+
+-- after these bytes that were kept, nothing is kept, or these bytes more
+abbrev IsMore : Option (List ℕ) → List ℕ → Option (List ℕ) → Type 0
+IsMore None bytes after = after ≡ None
+IsMore (Some kept) bytes after = (after ≡ Some (kept ++ bytes)) ⊎ (after ≡ None)
+
+-- after an error, what was kept stays
+after_error : (before after : Option (List ℕ)) (buffer : List ℕ) (error : Error)
+    → Keeps before buffer (Err error) after → after ≡ before
+after_error None after buffer error h = h
+after_error (Some kept) after buffer error h = h
+
+after_bytes : (before after : Option (List ℕ)) (buffer : List ℕ) (n : ℕ)
+    → Keeps before buffer (Ok n) after → IsMore before (take n buffer) after
+after_bytes None after buffer n h = h
+after_bytes (Some kept) after buffer n h = h
+
+-- after bytes, and then more of them
+IsMore-trans : (before mid after : Option (List ℕ)) (front back : List ℕ) → IsMore before front mid
+    → IsMore mid back after → IsMore before (front ++ back) after
+IsMore-trans None mid after front back h k = grind arith
+IsMore-trans (Some kept) mid after front back (inl h) k = grind (arith, append_assoc)
+IsMore-trans (Some kept) mid after front back (inr h) k = grind arith
+
+-- at the end nothing more comes
+all : (bytes : List ℕ) (mid after : Option (List ℕ)) → IsMore (Some []) bytes mid
+    → IsMore mid [] after → (after ≡ Some bytes) ⊎ (after ≡ None)
+all bytes mid after (inl h) k = grind (arith, append-nil)
+all bytes mid after (inr h) k = grind arith
+
+module _ {S : Type 0} (reader : Reader S) where
+  after_interruptions : (P : List ℕ → Type 0) (n : ℕ) (old new : Kept S)
+      → Interruptions (kept_reader reader).gives P n old new → bytes_kept new ≡ bytes_kept old
+  unfolding Interruptions
+  after_interruptions P zero old new h = ap bytes_kept h
+  after_interruptions P (suc n) old new h =
+      let last = h.2 in
+      after_error (bytes_kept h.0) (bytes_kept new) last.bytes last.error last.given.1
+      ∙ after_interruptions P n old h.0 h.1
+
+  after_turn : (P : List ℕ → Type 0) (bytes : List ℕ) (n : ℕ) (old new : Kept S)
+      → Moves (kept_reader reader).gives P bytes n old new
+      → IsMore (bytes_kept old) (take n bytes) (bytes_kept new)
+  after_turn P bytes n old new h =
+      let mid = h.turn.mid in
+      let same = after_interruptions P h.turn.interruptions old mid h.turn.before in
+      subst (λ (kept : Option (List ℕ)). IsMore kept (take n bytes) (bytes_kept new)) same
+      (after_bytes (bytes_kept mid) (bytes_kept new) bytes n h.turn.last.1)
+
+  after_turns : (Asks : List ℕ → List ℕ → Type 0) (start moved : List ℕ) (old new : Kept S)
+      → bytes_kept old ≡ Some start → Transfers (kept_reader reader).gives Asks moved old new
+      → IsMore (Some start) moved (bytes_kept new)
+  after_turns Asks start moved old new is (none s) = inl (is ∙ ap Some (sym (append-nil start)))
+  after_turns Asks start moved old new is (more front bytes n _ mid _ turns some turn) =
+      IsMore-trans (Some start) (bytes_kept mid) (bytes_kept new) front (take n bytes)
+      (after_turns Asks start front old mid is turns)
+      (after_turn (Asks front) bytes n mid new turn)
+
+  -- all that was read
+  kept_whole : (bytes : List ℕ) (old new : Kept S) → bytes_kept old ≡ Some []
+      → IsReadWhole (kept_reader reader) old new bytes
+      → (bytes_kept new ≡ Some bytes) ⊎ (bytes_kept new ≡ None)
+  kept_whole bytes old new is h =
+      let before = after_turns _ [] bytes old h.mid is h.turns in
+      let last = after_turn _ h.buffer 0 h.mid new h.last in
+      all bytes (bytes_kept h.mid) (bytes_kept new) before last
 
 pub returns : goal.returns
 returns g c = λ old new bytes is whole. kept_whole g.S.Source.reader bytes old new is whole

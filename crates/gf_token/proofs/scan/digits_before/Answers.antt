@@ -1,5 +1,5 @@
 use Rattle.std.proofs.Common.{◌<◌, length, arith, get_or}
-use Rattle.gf_fraction.proofs.SpelledIsFound.{digit_from_ascii}
+use Rattle.gf_fraction.proofs.Offered.{digit_from_ascii}
 use Rattle.gf_token.proofs.ScannedIndices.{first_digits, first_value, has_room}
 use Rattle.gf_token.proofs.ScannedIndices.{more_digits, more_value}
 use Rattle.gf_token.proofs.scan.digits_before.Goals as goal

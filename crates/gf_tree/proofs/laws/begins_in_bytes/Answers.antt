@@ -1,4 +1,4 @@
-use Rattle.gf_token.proofs.Rows.{begins_in_bytes}
+use Rattle.gf_token.proofs.Offered.{begins_in_bytes}
 use Rattle.gf_tree.proofs.lemmas.places.Rows.{follows}
 use Rattle.gf_tree.proofs.lemmas.runs.Places.{is_reader}
 use Rattle.gf_tree.proofs.laws.begins_in_bytes.Goals as goal

@@ -1,8 +1,7 @@
 use Rattle.gf_tree.proofs.Common.{refl}
 use Rattle.std.specs.Fmt.{digits}
-use Rattle.gf_fraction.specs.inner.Computed.{gcd_within, lowest_of, number_of, sum_of}
-use Rattle.gf_token.specs.inner.Indices.{index_of}
-use Rattle.gf_token.specs.inner.Lexing.{lex}
+use Rattle.gf_fraction.specs.Offered.{gcd_within, lowest_of, number_of, sum_of}
+use Rattle.gf_token.specs.Offered.{index_of, lex}
 use Rattle.gf_tree.proofs.lemmas.games.Worked.{meant}
 use Rattle.gf_tree.proofs.laws.worked_games.Goals as goal
 

@@ -7,8 +7,8 @@ use Common.{keys_alone, SpellsGame, IsSpelled, FileTree, set_uses, IsAction, IsR
 use Common.{IsGameOf, Closing, flatten, Outcome, IsLabel, Option, Listed, Action, SetKey, IsGame, ℕ}
 use Common.{IsStep, IsNode, subst, arith, Token, List, ◌++◌, Some, None, Text, Each, Game, ap}
 use Common.{◌≡◌, ◌^◌, ◌<◌, ◌∷◌, map, sym, ◌∙◌, Use}
-use Rattle.gf_fraction.proofs.AllElements.{all_parts, all_mapped}
-use Rattle.gf_token.proofs.SpelledTokens.{AllSpelled, all_spelled, braced_spelled, comment_spelled}
+use Rattle.gf_fraction.proofs.Offered.{all_parts, all_mapped}
+use Rattle.gf_token.proofs.Offered.{AllSpelled, all_spelled, braced_spelled, comment_spelled}
 use Rattle.gf_tree.proofs.lemmas.games.Uses.{each, all_of_each, has}
 use Rattle.gf_tree.proofs.lemmas.games.Consistent.{map_entry, flatten_map, is_game}
 

@@ -4,7 +4,7 @@ use Rattle.gf_tree.proofs.Common.{filter_map, Described, FileNode, Position, ind
 use Rattle.gf_tree.proofs.Common.{Content, flatten, Learns, Listed, Option, braced, length}
 use Rattle.gf_tree.proofs.Common.{nat_eq, Token, arith, codes, subst, Bare, Bool, Each, List, None}
 use Rattle.gf_tree.proofs.Common.{Text, refl, zero, ◌++◌, Use, map, suc, sym, ◌∙◌, ◌∷◌, ◌≡◌, ap, ℕ}
-use Rattle.gf_token.proofs.Rows.{walks}
+use Rattle.gf_token.proofs.Offered.{walks, run_after}
 use Rattle.gf_tree.specs.Place.{IsBeforeNode, Place}
 use Rattle.gf_tree.specs.Rows.{StandsAt}
 use Rattle.gf_tree.specs.Sentence.{Says}
@@ -15,7 +15,6 @@ use Rattle.gf_tree.proofs.lemmas.places.Steps.{position_of}
 use Rattle.gf_tree.proofs.lemmas.runs.Ends.{after_outcome, after_players, zero_is_index, Completed}
 use Rattle.gf_tree.proofs.lemmas.runs.Ends.{nodes_end, terminals}
 use Rattle.gf_tree.proofs.lemmas.runs.Games.{file_found}
-use Rattle.gf_token.proofs.Walks.{run_after}
 use Rattle.gf_tree.specs.inner.Machine.{at_end, next}
 use Rattle.gf_tree.proofs.Common.{Format, at, nothing}
 

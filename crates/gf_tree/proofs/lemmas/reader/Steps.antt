@@ -15,12 +15,12 @@ use Rattle.std.specs.Prelude.{OnOk, IfOk, IfNone, MatchResult}
 use Common.{get_or_from_slice_get, slice_get-map}
 use Common.{PlayerNumber, UnknownPlayer, player_number}
 use Rattle.std.proofs.lemmas.Bool.Decides.{nat_tests}
-use Rattle.gf_token.specs.inner.Machine.Fails.{of_file}
+use Rattle.gf_token.specs.Offered.{of_file}
 use Rattle.std.proofs.lemmas.List.Quantifiers.{position-Some}
 use Rattle.gf_tree.specs.inner.KnownOutcomes.{with_pending_outcome}
 use Rattle.gf_token.specs.ReadAs.{IsReadAs}
-pub use Rattle.gf_token.proofs.Following.{carried, fails_back, goes_back, refused_why}
-use Rattle.gf_token.proofs.Walks.{passed_before}
+pub use Rattle.gf_token.proofs.Offered.{carried, fails_back, goes_back, refused_why}
+use Rattle.gf_token.proofs.Offered.{passed_before}
 use Rattle.gf_tree.specs.inner.Machine.{at_end, next}
 use Rattle.gf_token.specs.declared.token.TextToken.{TextToken}
 use Rattle.gf_tree.specs.inner.AddsUp.{adds_up}

@@ -12,10 +12,9 @@ use Common.{Position, past_set, set_ends, Opening, Closing, Outcome, Content, Ve
 use Common.{length, Option, Action, SetKey, set_of, shared, Format, Letter, nat_le, le-leb, codes}
 use Common.{Ratio, whole, Token, Begun, State, begun, Title, zero, true, List, Some, None, refl, []}
 use Common.{IsSpelled, ints, Text, Bare, paid, step, ◌<◌, ◌∷◌, ◌∙◌, pos, Ok, ap, at, MatchOption}
-use Rattle.gf_fraction.specs.inner.Computed.{number_of, lowest_of, gcd_within}
-use Rattle.gf_token.specs.inner.Indices.{index_of}
-use Rattle.gf_token.proofs.SpelledNumbers.{number_spelled}
-use Rattle.gf_token.proofs.SpelledTokens.{AllSpelled}
+use Rattle.gf_fraction.specs.Offered.{number_of, lowest_of, gcd_within}
+use Rattle.gf_token.specs.Offered.{index_of}
+use Rattle.gf_token.proofs.Offered.{number_spelled, AllSpelled}
 use Rattle.gf_tree.proofs.lemmas.runs.Tokens.{Reads, run_on, text_again}
 use Rattle.gf_tree.proofs.lemmas.runs.Payoffs.{number_same}
 use Rattle.gf_tree.proofs.lemmas.runs.Shares.{share_again}

@@ -10,7 +10,7 @@ use Common.{set_number, Described, NewAction, NewPayoff, new_label, number_is, P
 use Common.{same_set, set_ends, share_of, Content, Outcome, Action, Option, Result, SetKey, length}
 use Common.{nat_eq, shared, Begun, Ratio, Share, State, Token, arith, List, None, Some, Text, paid}
 use Common.{IsLabel, IsSpelled, refl, step, ◌++◌, Err, Why, suc, ◌<◌, ◌∷◌, ◌≡◌, Ok, [], ℕ}
-use Rattle.gf_fraction.specs.inner.Computed.{number_of}
+use Rattle.gf_fraction.specs.Offered.{number_of}
 use Rattle.gf_tree.proofs.lemmas.games.TreesOnce.{same_set_equality}
 use Rattle.gf_tree.proofs.lemmas.games.Members.{all_more}
 use Rattle.gf_tree.proofs.lemmas.runs.Learned.{found_has, one}

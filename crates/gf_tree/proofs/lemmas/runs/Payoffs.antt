@@ -5,7 +5,7 @@ use Common.{same_number, with_payoff, append-nil, run_tokens, NewPayoff, number_
 use Common.{IsNumber, then_run, Closing, Content, NodeDue, Outcome, Result, length, Begun}
 use Common.{Comma, Ratio, State, Token, arith, false, Bool, Each, List, Some, paid, refl, true}
 use Common.{zero, ◌++◌, Why, inr, suc, ◌∙◌, ◌∷◌, ◌≡◌, ◌⊎◌, Ok, [], ap, at}
-use Rattle.gf_fraction.specs.inner.Computed.{number_of}
+use Rattle.gf_fraction.specs.Offered.{number_of}
 use Rattle.gf_tree.proofs.lemmas.runs.Tokens.{ratio_same, run_on, Reads}
 
 -- ---- numbers in braces

@@ -4,11 +4,10 @@ use Rattle.gf_tree.proofs.Common.{IsExtensiveFile, tokens_of, Position, subst}
 use Rattle.gf_tree.proofs.Common.{Content, nothing, game_in, Lexeme, Format}
 use Rattle.gf_tree.proofs.Common.{Token, State, List, ◌≡◌}
 use Rattle.gf_tree.proofs.Common.{run, ◌↔◌, Ok, at, ℕ}
-use Rattle.gf_token.specs.inner.Machine.{walk}
+use Rattle.gf_token.specs.Offered.{walk}
 use Rattle.gf_tree.specs.inner.Machine.{at_end, next}
-use Rattle.gf_token.proofs.Reading.{IsReader}
-use Rattle.gf_token.proofs.SpelledTokens.{AllSpelled}
-use Rattle.gf_token.proofs.Walks as any_walk
+use Rattle.gf_token.proofs.Offered.{IsReader, AllSpelled}
+use Rattle.gf_token.proofs.Offered as any_walk
 use Rattle.gf_tree.proofs.lemmas.games.Consistent.{some_game}
 use Rattle.gf_tree.proofs.lemmas.games.Learned.{game_learned_once}
 use Rattle.gf_tree.proofs.lemmas.runs.Games.{file_found, file_again}

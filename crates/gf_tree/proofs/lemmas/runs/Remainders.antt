@@ -4,7 +4,7 @@ use Rattle.gf_tree.proofs.Common.{ints, Ratio, IsFraction, whole, IsSum, AddsTo,
 use Rattle.gf_tree.proofs.Common.{negsuc, ◌+ℤ◌, *ℤ_comm, mul_above}
 use Rattle.std.specs.Int.{IsGcd}
 use Rattle.std.proofs.Math.Nat.{one-dvd, dvd-sub_iff_right}
-use Rattle.gf_fraction.proofs.Sums.{Adding-equal, equal_parts, equal_value, sum_fits}
+use Rattle.gf_fraction.proofs.Offered.{Adding-equal, equal_parts, equal_value, sum_fits}
 use Rattle.gf_tree.proofs.lemmas.runs.Shares.{no_sign}
 
 -- a sum of probabilities

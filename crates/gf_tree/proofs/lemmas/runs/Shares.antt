@@ -8,7 +8,7 @@ use Rattle.gf_tree.proofs.Common.{IsSum, Share, cond, List, refl, Some, None, �
 use Rattle.gf_tree.proofs.Common.{◌+ℤ◌, ◌≤◌, ◌+◌, ◌∙◌, Err, pos, Why, ap, Ok, ℕ, ℤ}
 use Rattle.std.proofs.Common.{◌*◌}
 use Rattle.std.proofs.Math.Nat.{mul-le-mul_right, le_of_mul-le-mul_right}
-use Rattle.gf_fraction.specs.inner.Computed.{number_of, sum_of}
+use Rattle.gf_fraction.specs.Offered.{number_of, sum_of}
 
 abbrev pub ok_share : Share → Result Share Why
 ok_share s = Ok s

@@ -1,6 +1,6 @@
 use Rattle.gf_canon.proofs.Common.{arith, at_drop_all, common_steps, flat_map, action_fields}
 use Rattle.gf_tree.specs.Actions.{actions_of}
-use Rattle.gf_canon.proofs.lemmas.texts.TextPieces.{actions_left, list_closed}
+use Rattle.gf_canon.proofs.lemmas.texts.Fields.{actions_left, list_closed}
 use Rattle.gf_canon.proofs.text.braces.write_actions.Goals as goal
 
 pub returns-clause-text : goal.returns-clause-text

@@ -1,5 +1,5 @@
 use Rattle.gf_canon.proofs.Common.{◌≡◌, ◌++◌, drop, Keeps}
-use Rattle.gf_canon.proofs.lemmas.texts.TextPieces.{actions_left}
+use Rattle.gf_canon.proofs.lemmas.texts.Fields.{actions_left}
 use Rattle.gf_canon.proofs.text.braces.write_actions.Given as goal
 
 abbrev pub invariant-loop-action : goal.invariant-loop-action

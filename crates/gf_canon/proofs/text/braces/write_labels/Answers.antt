@@ -1,5 +1,5 @@
 use Rattle.gf_canon.proofs.Common.{arith, at_drop_all, common_steps, map, quoted, label_of}
-use Rattle.gf_canon.proofs.lemmas.texts.TextPieces.{labels_left, list_closed}
+use Rattle.gf_canon.proofs.lemmas.texts.Fields.{labels_left, list_closed}
 use Rattle.gf_canon.proofs.text.braces.write_labels.Goals as goal
 
 pub returns-clause-text : goal.returns-clause-text

@@ -1,5 +1,5 @@
 use Rattle.gf_canon.proofs.Common.{◌≡◌, ◌++◌, drop, Keeps}
-use Rattle.gf_canon.proofs.lemmas.texts.TextPieces.{labels_left}
+use Rattle.gf_canon.proofs.lemmas.texts.Fields.{labels_left}
 use Rattle.gf_canon.proofs.text.braces.write_labels.Given as goal
 
 abbrev pub invariant-loop-label : goal.invariant-loop-label

@@ -1,6 +1,6 @@
 use Rattle.gf_canon.proofs.Common.{arith, at_drop_all, common_steps, map}
 use Rattle.gf_fraction.specs.NumberText.{number_text}
-use Rattle.gf_canon.proofs.lemmas.texts.TextPieces.{payoffs_left, list_closed}
+use Rattle.gf_canon.proofs.lemmas.texts.Fields.{payoffs_left, list_closed}
 use Rattle.gf_canon.proofs.text.braces.write_payoffs.Goals as goal
 
 pub returns-clause-text : goal.returns-clause-text

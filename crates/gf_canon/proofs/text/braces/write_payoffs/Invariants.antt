@@ -1,5 +1,5 @@
 use Rattle.gf_canon.proofs.Common.{◌≡◌, ◌++◌, drop, Keeps}
-use Rattle.gf_canon.proofs.lemmas.texts.TextPieces.{payoffs_left}
+use Rattle.gf_canon.proofs.lemmas.texts.Fields.{payoffs_left}
 use Rattle.gf_canon.proofs.text.braces.write_payoffs.Given as goal
 
 abbrev pub invariant-loop-payoff : goal.invariant-loop-payoff

@@ -1,6 +1,6 @@
 use Rattle.gf_canon.proofs.Common.{arith}
 use Rattle.std.proofs.lemmas.Fmt.{decimal_nonempty, length-decimal-le}
-use Rattle.gf_canon.proofs.lemmas.texts.TextPieces.{number_appended, ten_digits}
+use Rattle.gf_canon.proofs.lemmas.texts.Fields.{number_appended, ten_digits}
 use Rattle.gf_canon.proofs.text.node_line.write_number.Goals as goal
 
 pub write_digits-start-requires : goal.write_digits-start-requires

@@ -1,5 +1,5 @@
 use Rattle.gf_canon.proofs.Common.{◌≡◌, ◌∷◌, ◌++◌, ◌+◌, ◌-◌, drop, ap, arith, ℕ, decimal, drop-set}
-use Rattle.gf_canon.proofs.lemmas.texts.TextPieces.{ten_digits}
+use Rattle.gf_canon.proofs.lemmas.texts.Fields.{ten_digits}
 use Rattle.gf_canon.proofs.text.plain_line.write_number_before.Goals as goal
 
 pub write_digits-at-requires : goal.write_digits-at-requires

@@ -1,5 +1,5 @@
 use Rattle.gf_canon.proofs.Common.{◌≡◌, ◌++◌, Keeps, file_nodes}
-use Rattle.gf_canon.proofs.lemmas.texts.TextPieces.{node_lines}
+use Rattle.gf_canon.proofs.lemmas.texts.Fields.{node_lines}
 use Rattle.gf_canon.proofs.text.write.write_text.Given as goal
 
 abbrev pub invariant-loop-node : goal.invariant-loop-node

@@ -1,6 +1,6 @@
 use Rattle.gf_form.proofs.Common.{append-nil, arith, []}
-use Rattle.gf_form.proofs.lemmas.rows.DigitsMade.{no_digits}
-use Rattle.gf_form.proofs.lemmas.rows.DigitChoices.{width_fits}
+use Rattle.gf_form.proofs.lemmas.rows.Digits.{no_digits}
+use Rattle.gf_form.proofs.lemmas.rows.GameDigits.{width_fits}
 use Rattle.gf_form.proofs.reduced.digits.own_steps.Goals as goal
 
 pub unwrap-steps-requires : goal.unwrap-steps-requires

@@ -1,5 +1,5 @@
-use Rattle.gf_form.proofs.Common.{IsLevel, arith, subst, ◌∙◌, ℕ}
-use Rattle.gf_form.proofs.lemmas.reduced.SearchStarts.{searched_all}
+use Rattle.gf_form.proofs.Common.{IsLevel, arith, subst, ◌∙◌, ◌≡◌, ◌+◌, ℕ}
+use Rattle.gf_form.proofs.lemmas.reduced.SearchStarts.{firsts_are, searched_all}
 use Rattle.gf_form.proofs.reduced.first.first_numbers.Goals as goal
 
 pub push_below-requires-clause-below : goal.push_below-requires-clause-below
@@ -13,3 +13,9 @@ push_below-requires-clause-below c =
     (rw c.deref-2.ensures.value at c.in_ok-level.ensures.visits)
     (subst (λ (positions : ℕ). IsLevel positions c.in_ok-level.level)
     (c.len.ensures ∙ player.digits.ok.0) c.in_ok-level.ensures.level))
+
+pub returns : goal.returns
+returns c =
+    let all : 0 + c.args.player.now.whole ≡ c.args.player.now.whole = omega arith in
+    firsts_are c.args.player.now.game.now c.requires.is_game c.args.player.now.number _
+    c.args.player.now.whole c.requires.whole (rw all at c.in_ok-push_below.ensures.found)

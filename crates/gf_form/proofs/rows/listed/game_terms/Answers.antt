@@ -1,6 +1,6 @@
-use Rattle.gf_form.proofs.Common.{IfOk-weaker, length-map, label_of, all_terms, length, Terms, ◌≡◌}
-use Rattle.gf_form.proofs.Common.{◌∙◌, sym, suc, ap}
-use Rattle.gf_form.proofs.lemmas.rows.SummedNodes.{terms_of_sums}
+use Rattle.gf_form.proofs.Common.{IfOk-weaker, length-map, all_terms, label_of, length, Terms, suc}
+use Rattle.gf_form.proofs.Common.{sym, ◌∙◌, ◌≡◌, ap}
+use Rattle.gf_form.proofs.lemmas.rows.ListedTerms.{terms_of_sums}
 use Rattle.gf_form.proofs.rows.listed.game_terms.Goals as goal
 
 pub returns-clause-terms : goal.returns-clause-terms

@@ -1,4 +1,4 @@
-use Rattle.gf_form.proofs.Common.{◌≡◌, ap, arith, length, take-length, get_or_default, Reached}
+use Rattle.gf_form.proofs.Common.{get_or_default, take-length, length, arith, Path, ◌≡◌, ap}
 use Rattle.gf_form.proofs.lemmas.rows.ListedTerms.{no_node, nodes_listed}
 use Rattle.gf_form.proofs.rows.listed.listed_over.Goals as goal
 
@@ -10,7 +10,7 @@ loop-start-preserved c =
     let more = c.in_ok-push_nodes.ensures in (
       nodes_listed _ _ c.args.nodes.now c.requires start c.alike_end-end.result
           c.loop-start-test.true end.onward end.within end.alike _
-          (ap (λ (r : Reached). r.demands)
+          (ap (λ (r : Path). r.demands)
           (get_or_default c.args.nodes.now start _ no_node c.loop-start-test.true)) _ _ inv.0
           more.term more.shaped more.players,
       end.within,

@@ -1,12 +1,12 @@
-use Rattle.gf_form.proofs.Common.{rows_of, Reached, Scaled, arith, Ratio, ◌++◌, lit<, List, refl, ℤ}
-use Rattle.gf_form.proofs.Common.{◌∷◌, ◌∙◌, pos, ◌≡◌, ◌≤◌, ◌<◌, [], ap, ℕ}
+use Rattle.gf_form.proofs.Common.{rows_of, Scaled, Ratio, arith, List, Path, lit<, refl, ◌++◌, pos}
+use Rattle.gf_form.proofs.Common.{◌<◌, ◌∙◌, ◌∷◌, ◌≡◌, ◌≤◌, [], ap, ℕ, ℤ}
 use Rattle.gf_form.specs.inner.rows.ListedNodes.{IsShareAt}
-use Rattle.gf_form.proofs.lemmas.rows.ItemRows.{one_item, in_bits}
+use Rattle.gf_form.proofs.lemmas.rows.FlatRows.{one_item, in_bits}
 use Rattle.gf_form.proofs.rows.listed.push_shares.Goals.{in-Some, in-None}
 use Rattle.gf_form.proofs.rows.listed.push_shares.Goals as goal
 
 -- over the same denominator, or none, and of no smaller size
-still : (rows : List (List Ratio)) (rs : List Reached) (was is : Scaled)
+still : (rows : List (List Ratio)) (rs : List Path) (was is : Scaled)
     → (0 < is.den → is.den ≡ was.den) → was.size ≤ is.size → (k : ℕ) (z : ℤ)
     → IsShareAt rows rs was k z → IsShareAt rows rs is k z
 still rows rs was is same up k z h = grind arith

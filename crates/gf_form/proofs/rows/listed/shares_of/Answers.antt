@@ -1,17 +1,17 @@
-use Rattle.gf_form.proofs.Common.{take-length, node_terms, map-append, take_more, IsExactAt, length}
-use Rattle.gf_form.proofs.Common.{node_term, at_place, all_both, Reached, rows_of, term_of, ArePaid}
-use Rattle.gf_form.proofs.Common.{row_at, arith, Ratio, ints, ◌+ℤ◌, List, take, Game, ◌++◌}
-use Rattle.gf_form.proofs.Common.{path_to, ◌≡◌, ◌∷◌, suc, ◌+◌, [], ℕ, ℤ}
+use Rattle.gf_form.proofs.Common.{take-length, map-append, node_terms, IsExactAt, node_term, length}
+use Rattle.gf_form.proofs.Common.{take_more, all_both, at_place, ArePaid, rows_of, term_of, row_at}
+use Rattle.gf_form.proofs.Common.{Ratio, arith, Game, List, Path, ints, take, ◌++◌, ◌+ℤ◌, suc, ◌+◌}
+use Rattle.gf_form.proofs.Common.{◌∷◌, ◌≡◌, [], ℕ, ℤ}
 use Rattle.gf_form.specs.inner.rows.ListedNodes.{HasShares}
 use Rattle.gf_form.specs.inner.rows.Shares.{IsShare}
-use Rattle.gf_form.proofs.lemmas.rows.ItemRows.{in_bits}
+use Rattle.gf_form.proofs.lemmas.rows.FlatRows.{in_bits}
 use Rattle.gf_form.proofs.lemmas.rows.ListedTerms.{shares_append, bounds_append, no_node, node_at}
 use Rattle.gf_form.specs.declared.rows.share.Share.{Share}
 use Rattle.gf_form.proofs.rows.listed.shares_of.Goals as goal
 
-one_share_more : (g : Game) (rows : List (List Ratio)) (k den : ℕ) (rs : List Reached)
-    (r : Reached) (bound next : ℕ) (amount total : ℤ) (s : Share) → ArePaid g rows
-    → IsShare (term_of (path_to r) (at_place (row_at rows r.outcome) k)) den s
+one_share_more : (g : Game) (rows : List (List Ratio)) (k den : ℕ) (rs : List Path)
+    (r : Path) (bound next : ℕ) (amount total : ℤ) (s : Share) → ArePaid g rows
+    → IsShare (term_of r (at_place (row_at rows r.outcome) k)) den s
     → total ≡ amount +ℤ s.amount → next ≡ bound + s.bound
     → HasShares g rs k den bound amount → HasShares g (rs ++ r ∷ []) k den next total
 one_share_more g rows k den rs r bound next amount total s are is total_is next_is before =
@@ -39,7 +39,7 @@ loop-node-preserved c =
       λ g are. rw (take_more nodes at no_node c.loop-node-test.true)
           (one_share_more g (rows_of c.args.payoffs.now) c.args.place c.args.den
           (take at nodes) r sum.bound c.in_ok-bound.bound sum.amount amount share are
-          (rw (c.payoff_at-payoff.ensures, c.path.ensures) at c.in_ok-share.ensures.share) total
+          (rw c.payoff_at-payoff.ensures at c.in_ok-share.ensures.share) total
           c.in_ok-bound.ensures.1 (inv.1 g are)),
     )
 

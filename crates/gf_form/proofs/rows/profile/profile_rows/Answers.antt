@@ -1,7 +1,6 @@
 use Rattle.std.proofs.lemmas.Grind.{common_steps}
-use Rattle.gf_form.proofs.Common.{◌∙◌, arith, get_or, digit_actions, rows_of, sym}
-use Rattle.gf_form.proofs.lemmas.rows.GameRows.{settle_all}
-use Rattle.gf_form.proofs.lemmas.rows.PayingTerms.{settled_at}
+use Rattle.gf_form.proofs.Common.{digit_actions, rows_of, get_or, arith, sym, ◌∙◌}
+use Rattle.gf_form.proofs.lemmas.rows.PayingTerms.{settle_all, settled_at}
 use Rattle.gf_form.proofs.rows.profile.profile_rows.Goals as goal
 
 pub push_rows-requires-clause-settled : goal.push_rows-requires-clause-settled

@@ -33,7 +33,7 @@ pub returns-then-num-eq0-clause-share : goal.returns-then-num-eq0-clause-share
 returns-then-num-eq0-clause-share c =
     let nothing : c.args.payoff.num ≡ pos 0 =
     grind (arith, to_z-of_z, fits_signed_from_abs, c.num.ensures) in
-    zero_share _ _ _ _ nothing refl refl
+    zero_share c.args.path _ _ _ nothing refl refl
 
 pub returns-clause-share : goal.returns-clause-share
 returns-clause-share c =

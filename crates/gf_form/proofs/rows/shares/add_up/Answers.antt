@@ -1,5 +1,5 @@
 use Rattle.gf_form.proofs.Common.{arith}
-use Rattle.gf_form.proofs.lemmas.rows.SummedNodes.{added_up, have_then}
+use Rattle.gf_form.proofs.lemmas.rows.ListedTerms.{added_up, have_then}
 use Rattle.gf_form.proofs.rows.shares.add_up.Goals as goal
 
 pub returns : goal.returns

@@ -1,5 +1,5 @@
-use Rattle.gf_form.proofs.Common.{IsNonDecreasingBy-from_sort_by_key, Reached, rules}
-use Rattle.gf_form.proofs.lemmas.rows.SummedNodes.{have_permuted, have_then}
+use Rattle.gf_form.proofs.Common.{IsNonDecreasingBy-from_sort_by_key, rules, Path}
+use Rattle.gf_form.proofs.lemmas.rows.ListedTerms.{have_permuted, have_then}
 use Rattle.gf_form.proofs.rows.shares.paid_sums.Goals as goal
 
 pub returns-clause-shares : goal.returns-clause-shares
@@ -11,5 +11,5 @@ returns-clause-shares c =
 
 pub returns-clause-ordered : goal.returns-clause-ordered
 returns-clause-ordered c =
-    IsNonDecreasingBy-from_sort_by_key (λ (r : Reached). r.demands) _
+    IsNonDecreasingBy-from_sort_by_key (λ (r : Path). r.demands) _
     c.sort_unstable_by_key-2.ensures.sorted (λ a r f k. search rules)

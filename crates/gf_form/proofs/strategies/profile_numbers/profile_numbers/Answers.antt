@@ -1,7 +1,7 @@
-use Rattle.gf_form.proofs.Common.{drop_of_length-le, length-map, drop-cons, product, Global, length}
-use Rattle.gf_form.proofs.Common.{arith, List, drop, ◌≡◌, ◌-◌, ◌<◌, suc, Vec, map, [], ℕ, take}
-use Rattle.gf_form.proofs.Common.{take-append-drop}
-use Rattle.gf_form.proofs.lemmas.rows.DigitPlaces.{product_joined}
+use Rattle.gf_form.proofs.Common.{drop_of_length-le, take-append-drop, length-map, drop-cons, arith}
+use Rattle.gf_form.proofs.Common.{product, Global, length, List, drop, take, Vec, map, suc, ◌-◌, []}
+use Rattle.gf_form.proofs.Common.{◌<◌, ◌≡◌, ℕ}
+use Rattle.gf_form.proofs.lemmas.rows.Digits.{product_joined}
 use Rattle.gf_form.proofs.lemmas.strategies.CountedActions.{own_read}
 use Rattle.gf_form.proofs.lemmas.strategies.Lookups.{all_right, zip_at}
 use Rattle.gf_form.proofs.lemmas.strategies.PickedProfiles.{next_picked}

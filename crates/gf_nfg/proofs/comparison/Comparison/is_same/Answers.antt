@@ -17,10 +17,6 @@ returns-then-eq c = λ bytes h.
     let same = c.same_heading.ensures.0 c.if-not-same_heading.false in
     (table_of (other c.args.t.now _ _ _ h), h.means.spelled, h.means.within, grind arith)
 
-pub into_table-requires : goal.into_table-requires
-into_table-requires c =
-    (c.requires.0, parts_kept c.args.t.now _ _ _ c.requires.1 (search rules))
-
 pub returns : goal.returns
 returns c = λ bytes h.
     let m = parts_kept c.args.t.now _ _ _ h (search rules) in

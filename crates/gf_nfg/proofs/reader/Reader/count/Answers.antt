@@ -1,5 +1,5 @@
 use Rattle.gf_nfg.proofs.Common.{rules}
-use Rattle.gf_token.proofs.ReadingIndices.{index_read}
+use Rattle.gf_token.proofs.Offered.{index_read}
 use Rattle.gf_nfg.proofs.reader.Reader.count.Goals as goal
 
 pub returns-clause-first : goal.returns-clause-first

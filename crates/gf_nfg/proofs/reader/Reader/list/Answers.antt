@@ -1,7 +1,7 @@
-use Rattle.gf_nfg.proofs.Common.{rules, ◌+◌, [], ◌∷◌, arith, label_of, at, with_labels, InList}
+use Rattle.gf_nfg.proofs.Common.{rules, ◌+◌, [], ◌∷◌, label_of, at, with_labels, InList}
 use Rattle.gf_nfg.proofs.Common.{content_in}
 use Rattle.gf_nfg.proofs.lemmas.places.Judged.{lacks_memory}
-use Rattle.gf_nfg.proofs.lemmas.runs.ReaderSteps.{goes_back, goes_from}
+use Rattle.gf_nfg.proofs.lemmas.runs.ReaderSteps.{goes_back}
 use Rattle.gf_nfg.proofs.reader.Reader.list.Goals as goal
 
 pub returns-in_err-keep-clause-machine : goal.returns-in_err-keep-clause-machine
@@ -11,8 +11,3 @@ returns-in_err-keep-clause-machine c = λ left.
     (at (InList left (c.loop-strategy.strategies + 1)) (with_labels
     (content_in c.loop-strategy.self.heading) (label_of c.in-Some.strategy.label ∷ [])))
     (search rules))
-
-pub returns-clause-machine : goal.returns-clause-machine
-returns-clause-machine c = λ left.
-    goes_from c.settle.result _ (grind (arith, c.loop-strategy.invariant.0 left))
-    (c.settle.ensures.lists left)

@@ -1,6 +1,6 @@
 use Rattle.gf_nfg.proofs.Common.{rules, ◌-◌, ◌++◌, [], ◌∷◌, ◌∙◌, at, OutcomeNumbers, content_told}
 use Rattle.gf_nfg.proofs.Common.{told_of}
-use Rattle.gf_token.proofs.ReadingIndices.{index_read}
+use Rattle.gf_token.proofs.Offered.{index_read}
 use Rattle.gf_nfg.proofs.lemmas.places.Judged.{lacks_memory}
 use Rattle.gf_nfg.proofs.reader.body.number.Goals as goal
 

@@ -1,6 +1,6 @@
 use Rattle.gf_nfg.proofs.Common.{rules, ◌-◌, ◌++◌, [], ◌∷◌, ◌∙◌, at, BracedPayoff, FlatPayoffs}
 use Rattle.gf_nfg.proofs.Common.{content_told, told_of, true}
-use Rattle.gf_fraction.proofs.ComputedAnswers.{answer_is}
+use Rattle.gf_fraction.proofs.Offered.{answer_is}
 use Rattle.gf_nfg.proofs.lemmas.places.Judged.{lacks_memory}
 use Rattle.gf_nfg.proofs.reader.body.payoff.Goals as goal
 

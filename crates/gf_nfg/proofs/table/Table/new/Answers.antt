@@ -1,5 +1,5 @@
 use Rattle.gf_nfg.proofs.Common.{arith, ◌∙◌, ap, label_of, length, length-map}
-use Rattle.gf_nfg.proofs.lemmas.tables.Made.{AreKept, clones_are, lists_spelled, names_with}
+use Rattle.gf_nfg.proofs.lemmas.tables.Made.{AreKept, clones_are, lists_spelled}
 use Rattle.gf_nfg.proofs.lemmas.tables.Made.{parts_of_labels}
 use Rattle.gf_nfg.proofs.lemmas.tables.Rows.{counts_of_lists, some_in_lists}
 use Rattle.gf_nfg.proofs.table.Table.new.Goals as goal
@@ -16,9 +16,3 @@ in_turn-requires c =
     (some_in_lists label_of lists c.requires.some_strategy)
     (rw counts c.requires.profiles) kept.1
     (rw counts (ap length kept.0 ∙ c.requires.rows)) (lists_spelled lists))
-
-pub returns : goal.returns
-returns c =
-    let kept : AreKept c.args.rows.now c.in_ok-rows.rows.items =
-    search (arith, clones_are, c.in_ok-rows.ensures) in
-    grind (arith, names_with, kept.0)

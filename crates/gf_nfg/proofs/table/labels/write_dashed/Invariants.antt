@@ -1,5 +1,5 @@
 use Rattle.gf_nfg.proofs.Common.{◌≡◌, ◌++◌, drop, Keeps}
-use Rattle.gf_nfg.proofs.lemmas.tables.LabelsJoined.{dashes}
+use Rattle.gf_nfg.proofs.lemmas.tables.LabelLists.{dashes}
 use Rattle.gf_nfg.proofs.table.labels.write_dashed.Given as goal
 
 abbrev pub invariant-loop-part : goal.invariant-loop-part

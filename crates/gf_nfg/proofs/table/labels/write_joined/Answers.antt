@@ -1,5 +1,5 @@
 use Rattle.std.proofs.Common.{arith}
-use Rattle.gf_nfg.proofs.lemmas.tables.LabelsJoined.{joined_labels}
+use Rattle.gf_nfg.proofs.lemmas.tables.LabelLists.{joined_labels}
 use Rattle.gf_nfg.proofs.table.labels.write_joined.Goals as goal
 
 pub returns-in_ok-write_dashed-in-Some-clause-text :

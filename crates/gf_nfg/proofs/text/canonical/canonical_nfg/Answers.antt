@@ -10,11 +10,6 @@ returns-then-eq-clause-text c =
     let h = payoffs_written _ _ c.args.named c.tell_nfg.new.to (search rules) told in
     (h.0, h.1, h.2, c.of.ensures.rest ∙ h.3)
 
-pub with_lines-requires : goal.with_lines-requires
-with_lines-requires c =
-    let told = rw c.new-text.ensures.named at c.in_ok-heading.ensures.told in
-    (outcomes_begin _ _ c.args.named c.tell_nfg.new.to (search rules) told).means.complete
-
 pub returns-in-Ok-clause-text : goal.returns-in-Ok-clause-text
 returns-in-Ok-clause-text c =
     let content = content_of

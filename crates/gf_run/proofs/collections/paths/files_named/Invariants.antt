@@ -1,6 +1,6 @@
 use Rattle.std.proofs.Common.{◌++◌, List, ℕ, drop, map}
 use Rattle.std.specs.String.{string_bytes}
-use Rattle.gf_run.specs.Collected.{AreSomeOf}
+use Rattle.gf_run.specs.Performs.{AreSomeOf}
 use Rattle.gf_run.proofs.collections.paths.files_named.Given as goal
 
 -- with some of what is left, those so far are some of all

@@ -1,5 +1,5 @@
 use Rattle.std.proofs.Common.{refl}
-use Rattle.gf_run.specs.Rewritten.{read, unread}
+use Rattle.gf_run.specs.Run.{read, unread}
 use Rattle.gf_run.proofs.collections.rewrite.rewrite.Goals as goal
 
 pub returns-in-Ok : goal.returns-in-Ok

@@ -11,4 +11,4 @@ pub returns-in-Err : goal.returns-in-Err
 returns-in-Err g c = rw c.in-Check.is (Err c.in-Err.fault, refl, c.in-Err.ensures)
 
 pub returns-in-Table : goal.returns-in-Table
-returns-in-Table g c = rw c.in-Table.is c.run_form_by.ensures
+returns-in-Table g c = rw c.in-Table.is c.run_form.ensures

@@ -1,5 +1,5 @@
 use Rattle.std.proofs.Common.{refl}
-use Rattle.gf_run.specs.Run.{answered, cut_off, refused, unread}
+use Rattle.gf_run.specs.Run.{answered, cut_off, read, refused, unread}
 use Rattle.gf_run.proofs.Errors.{is_error}
 use Rattle.gf_run.proofs.jobs.run.run_check.Goals as goal
 
@@ -8,14 +8,17 @@ returns-in_err-bytes g c =
     unread _ (is_error _ _ c.from_residual.ensures.1) c.in_err-bytes.ensures.part refl
 
 pub returns-in_err-kind : goal.returns-in_err-kind
-returns-in_err-kind g c =
-    refused _ _ (is_error _ _ c.from_residual-in_err-kind.ensures.1)
-    c.in_ok-bytes.ensures.whole (rw c.as_slice.ensures.value at c.in_err-kind.ensures.refused) refl
+returns-in_err-kind g c = read _ c.in_ok-bytes.ensures.whole
+    (refused _ (is_error _ _ c.from_residual-in_err-kind.ensures.1)
+    (rw c.as_slice.ensures.value at c.in_err-kind.ensures) refl)
 
 pub returns-in_err-push_all : goal.returns-in_err-push_all
-returns-in_err-push_all g c =
-    cut_off c.in_ok-kind.kind _ _ (is_error _ _ c.from_residual-in_err-push_all.ensures.1)
-    c.in_ok-bytes.ensures.whole (rw c.as_slice.ensures.value at c.in_ok-kind.ensures.kind, c.kind_line.ensures) c.in_err-push_all.ensures.part
+returns-in_err-push_all g c = read _ c.in_ok-bytes.ensures.whole
+    (cut_off c.in_ok-kind.kind _ (is_error _ _ c.from_residual-in_err-push_all.ensures.1)
+    (rw c.as_slice.ensures.value at c.in_ok-kind.ensures, c.kind_line.ensures)
+    c.in_err-push_all.ensures.part)
 
 pub returns : goal.returns
-returns g c = answered c.in_ok-kind.kind _ _ refl c.in_ok-bytes.ensures.whole (rw c.as_slice.ensures.value at c.in_ok-kind.ensures.kind, c.kind_line.ensures) c.in_ok-push_all.ensures.all
+returns g c = read _ c.in_ok-bytes.ensures.whole (answered c.in_ok-kind.kind _ refl
+    (rw c.as_slice.ensures.value at c.in_ok-kind.ensures, c.kind_line.ensures)
+    c.in_ok-push_all.ensures.all)

@@ -3,13 +3,13 @@ use Rattle.gf_run.specs.declared.texts.comparison.PairLines.{PairLines}
 use Rattle.gf_run.proofs.MapLines.{line_and_map, two_parts}
 use Rattle.gf_run.proofs.texts.comparison.compare_with_map.Goals as goal
 
-pub returns-clause-answer : goal.returns-clause-answer
-returns-clause-answer c =
+pub returns : goal.returns
+returns c =
     let says = c.in_ok-same.ensures.told in
     let none = c.new.ensures.items in
     let same = c.in_ok-same.same in
     let lines = c.pairs_of_files.new.to.text.items in
-    record {
+    rw (c.answer_with.ensures.value, c.answer_with.ensures.text) (record {
       first = says.0;
       second = says.1;
       first_spelled = says.2;
@@ -19,4 +19,4 @@ returns-clause-answer c =
           (λ no. ap (λ (told : PairLines). told.text.items) (c.in_ok-same.ensures.untold no) ∙ none)
           (two_parts same _ _ lines _ c.answer_line.ensures c.as_slice.ensures.value
           c.in_ok-text.ensures);
-    }
+    })

@@ -1,7 +1,7 @@
 use Rattle.gf_tree.proofs.Common.{◌≡◌, ap, arith, false, Some, None, refl, rules, label_of}
 use Rattle.gf_tree.proofs.Common.{is_quoted, starts, Reader, with_node, KnownOutcomeName, NodeDue}
 use Rattle.gf_tree.proofs.Common.{begun_with, content_of}
-use Rattle.gf_token.proofs.ReadingIndices.{index_read}
+use Rattle.gf_token.proofs.Offered.{index_read}
 use Rattle.gf_tree.proofs.lemmas.reader.Steps.{lacks_memory}
 use Rattle.gf_tree.proofs.lemmas.stores.PassedBy.{outcome_passed_by}
 use Rattle.gf_tree.specs.inner.ReaderState.{with_children}

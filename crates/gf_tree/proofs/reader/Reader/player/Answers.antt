@@ -1,6 +1,6 @@
 use Rattle.gf_tree.proofs.Common.{◌∙◌, ◌≤◌, ◌<◌, ap, arith, length, length-map, content_of}
-use Rattle.gf_token.specs.inner.Indices.{positive}
-use Rattle.gf_token.proofs.ReadingIndices.{index_read}
+use Rattle.gf_token.specs.Offered.{positive}
+use Rattle.gf_token.proofs.Offered.{index_read}
 use Rattle.gf_tree.proofs.lemmas.reader.Steps.{player_again, player_unknown, taken}
 use Rattle.gf_tree.proofs.reader.Reader.player.Goals as goal
 

@@ -1,6 +1,6 @@
 use Rattle.gf_tree.proofs.Common.{◌∙◌, ap, rules, set_of, content_of}
-use Rattle.gf_token.specs.inner.Indices.{positive}
-use Rattle.gf_token.proofs.ReadingIndices.{index_read}
+use Rattle.gf_token.specs.Offered.{positive}
+use Rattle.gf_token.proofs.Offered.{index_read}
 use Rattle.gf_tree.proofs.lemmas.stores.PassedBy.{set_passed_by}
 use Rattle.gf_tree.proofs.lemmas.reader.Steps.{set_again, set_known_again, taken}
 use Rattle.gf_tree.proofs.reader.Reader.set.Goals as goal

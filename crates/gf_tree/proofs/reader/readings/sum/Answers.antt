@@ -1,5 +1,5 @@
 use Rattle.gf_tree.proofs.Common.{sym, sum_of-some}
-use Rattle.gf_fraction.proofs.ComputedArithmetic.{sum_of-none}
+use Rattle.gf_fraction.proofs.Offered.{sum_of-none}
 use Rattle.gf_tree.proofs.reader.readings.sum.Goals as goal
 
 pub returns-in-Ok-clause-sum : goal.returns-in-Ok-clause-sum

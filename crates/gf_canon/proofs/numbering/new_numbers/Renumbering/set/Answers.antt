@@ -1,4 +1,4 @@
-use Rattle.gf_canon.proofs.Common.{◌≡◌, ◌∙◌, ap, NewNumbers, new_set_number}
+use Rattle.gf_canon.proofs.Common.{◌∙◌, ap, NewNumbers, new_set_number}
 use Rattle.gf_canon.proofs.lemmas.numbers.Kept.{kept_set}
 use Rattle.gf_canon.proofs.numbering.new_numbers.Renumbering.set.Goals as goal
 

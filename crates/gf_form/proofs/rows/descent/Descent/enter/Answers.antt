@@ -1,5 +1,5 @@
-use Rattle.gf_form.proofs.Common.{game_of, sym, ◌∙◌, arith}
-use Rattle.gf_form.proofs.lemmas.rows.DescentTold.{step_there, entered, below_last}
+use Rattle.gf_form.proofs.Common.{game_of, arith, sym, ◌∙◌}
+use Rattle.gf_form.proofs.lemmas.rows.Descents.{step_there, entered, below_last}
 use Rattle.gf_form.proofs.rows.descent.Descent.enter.Goals as goal
 
 pub returns-clause-left : goal.returns-clause-left

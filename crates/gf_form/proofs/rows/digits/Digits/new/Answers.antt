@@ -1,10 +1,9 @@
-use Rattle.gf_form.proofs.Common.{◌≡◌, ◌<◌, ℕ, [], Vec, Global, ap, arith, get_or, length}
-use Rattle.gf_form.proofs.Common.{length-map, length-append, take, in_order}
-use Rattle.gf_form.proofs.lemmas.strategies.CountedActions.{take_past, actions_in}
-use Rattle.gf_form.proofs.lemmas.strategies.CountedActions.{own_read}
-use Rattle.gf_form.proofs.lemmas.rows.DigitPlaces.{steps_long}
-use Rattle.gf_form.proofs.lemmas.rows.DigitsMade.{player_order, player_steps}
-use Rattle.gf_form.proofs.lemmas.rows.GameDigits.{first_fit, has_digits}
+use Rattle.gf_form.proofs.Common.{steps_after, length-map, in_order, Global, get_or, length, arith}
+use Rattle.gf_form.proofs.Common.{take, Vec, ◌<◌, ◌≡◌, [], ap, ℕ}
+use Rattle.gf_form.specs.inner.rows.DigitSteps.{strides_of}
+use Rattle.gf_form.proofs.lemmas.strategies.CountedActions.{take_past, actions_in, own_read}
+use Rattle.gf_form.proofs.lemmas.rows.Digits.{steps_long, strides_long, player_made, player_order}
+use Rattle.gf_form.proofs.lemmas.rows.GameDigits.{width_fits, first_few, has_digits}
 use Rattle.std.proofs.lemmas.List.{map_push}
 use Rattle.gf_form.proofs.rows.digits.Digits.new.Goals as goal
 
@@ -21,7 +20,8 @@ unwrap-own_steps-requires c =
     let put = rw own at
     (c.in_ok-put_digits.ensures (in_order (take i counts)) c.loop-own.invariant.digits) in
     let are = c.requires.1 in
-    let fit = first_fit c.requires.0 are.is_game c.args.counts.now are i inside in
+    let few = first_few c.requires.0 are.is_game c.args.counts.now are i inside in
+    let fit = width_fits _ few.0 few.1 in
     grind (arith, put, fit)
 
 pub loop-own-preserved : goal.loop-own-preserved
@@ -38,13 +38,20 @@ loop-own-preserved c =
     let order = player_order counts i inside in
     let put = rw (c.unwrap-own_steps.ensures, own) at
     (c.in_ok-put_digits.ensures (in_order (take i counts)) inv.digits) in
-    let long : length c.unwrap-own_steps.result.0.items ≡ length (get_or counts i []) =
-    omega (arith, ap length put.1, steps_long, length-append {A = ℕ}) in
+    let few = first_few c.requires.0 c.requires.1.is_game c.args.counts.now c.requires.1 i inside in
+    let same : c.deref-in-loop-own.result.now ≡ get_or counts i [] =
+    cc (c.deref-in-loop-own.ensures.value, c.deref.ensures.value, own) in
+    let made = (rw same at c.in_ok-own_strides.ensures) (in_order (take i counts)) inv.choices few.0
+    few.1 in
     record {
       digits = rw order put.0;
-      steps = player_steps counts i c.unwrap-own_steps.result.0.items _ _ inside long
-          (rw c.in_ok-push.ensures.items (map_push (λ (own : Vec ℕ Global). own.items)
+      steps = player_made (steps_after 1) (steps_long 1) counts i c.unwrap-own_steps.result.0.items
+          _ _ inside (rw c.in_ok-push.ensures.items (map_push (λ (own : Vec ℕ Global). own.items)
           c.loop-own.steps.items c.unwrap-own_steps.result.0)) (rw order put.1) inv.steps;
+      strides = player_made strides_of strides_long counts i c.in_ok-own_strides.own_strides.items _ _
+          inside (rw c.in_ok-push-2.ensures.items (map_push (λ (own : Vec ℕ Global). own.items)
+          c.loop-own.all_strides.items c.in_ok-own_strides.own_strides)) (rw order made.0) inv.strides;
+      choices = rw order made.1;
     }
 
 pub returns : goal.returns
@@ -53,4 +60,4 @@ returns c g are =
     let long = ap length c.deref-own-items.ensures.value in
     let all : take c.loop-own.own-index counts ≡ counts = grind (arith, take_past, length-map) in
     let inv = rw (all, are.actions) at c.loop-own.invariant in
-    has_digits g are.is_game _ c.loop-own.values inv.digits inv.steps are.profiles
+    has_digits g are.is_game _ c.loop-own.values inv.digits inv.steps inv.strides

@@ -1,10 +1,15 @@
-use Rattle.gf_form.proofs.Common.{map, take, AreDigitsOf, AreStepsOf, in_order}
+use Rattle.gf_form.proofs.Common.{AreDigitsOf, AreMadeOf, in_order, map, product, steps_after, take}
+use Rattle.gf_form.proofs.Common.{◌≡◌}
+use Rattle.gf_form.specs.inner.rows.DigitSteps.{strides_of}
 use Rattle.gf_form.proofs.lemmas.strategies.CountedActions.{actions_in}
 use Rattle.gf_form.proofs.rows.digits.Digits.new.Given as goal
 
 abbrev pub invariant-loop-own : goal.invariant-loop-own
-invariant-loop-own l = record {
-  digits : AreDigitsOf (in_order (take l.own-index (actions_in l.counts))) l.digits.items l.values;
-  steps : AreStepsOf (take l.own-index (actions_in l.counts))
-      (map (λ own. own.items) l.steps.items);
-}
+invariant-loop-own l =
+    let first = take l.own-index (actions_in l.counts) in
+    record {
+      digits : AreDigitsOf (in_order first) l.digits.items l.values;
+      steps : AreMadeOf (steps_after 1) first (map (λ own. own.items) l.steps.items);
+      strides : AreMadeOf strides_of first (map (λ own. own.items) l.all_strides.items);
+      choices : l.choices ≡ product (in_order first);
+    }

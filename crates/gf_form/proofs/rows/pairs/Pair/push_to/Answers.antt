@@ -1,5 +1,5 @@
 use Rattle.gf_form.specs.inner.rows.Pairs.{IsPairAt}
-use Rattle.gf_form.proofs.lemmas.rows.ItemRows.{in_bits, no_item, one_item}
+use Rattle.gf_form.proofs.lemmas.rows.FlatRows.{in_bits, no_item, one_item}
 use Rattle.gf_form.proofs.rows.pairs.Pair.push_to.Goals as goal
 
 pub loop-place-init : goal.loop-place-init

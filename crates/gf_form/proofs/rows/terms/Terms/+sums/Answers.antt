@@ -1,53 +1,24 @@
 use Rattle.std.proofs.lemmas.Grind.{common_steps}
-use Rattle.gf_form.proofs.Common.{actions_at, all_terms, arith, sym, ◌∷◌, ◌≡◌, ◌∙◌}
+use Rattle.gf_form.proofs.Common.{actions_at, all_terms, arith, ◌∙◌, ◌∷◌, ◌≡◌}
 use Rattle.std.proofs.lemmas.Result.{on_ok_weaker}
-use Rattle.gf_form.proofs.lemmas.rows.ChoiceSums.{added_through, alone_met, first_summing}
-use Rattle.gf_form.proofs.lemmas.rows.ChoiceSums.{last_met, last_summing, more_summing}
-use Rattle.gf_form.proofs.lemmas.rows.ChoiceSums.{none_demanded, summed_sums}
+use Rattle.gf_form.proofs.lemmas.rows.ChoiceSums.{added_through, alone_met, first_summing, last_met}
+use Rattle.gf_form.proofs.lemmas.rows.ChoiceSums.{last_summing, more_summing, none_demanded}
+use Rattle.gf_form.proofs.lemmas.rows.ChoiceSums.{summed_sums}
 use Rattle.gf_form.proofs.lemmas.rows.Merges.{none_ordered}
-use Rattle.gf_form.proofs.lemmas.rows.SettledRows.{faster_within, first_step}
+use Rattle.gf_form.proofs.lemmas.rows.PairRows.{faster_within, first_step}
 use Rattle.gf_form.proofs.rows.terms.Terms.+sums.Goals as goal
 
 pub summed-push_sums-requires : goal.summed-push_sums-requires
 summed-push_sums-requires t c =
-    let first = c.in_ok-push_part.ensures in
-    let none = none_ordered c.clear-2.new.self c.clear-2.ensures.none in (
-      omega (arith, c.decreases),
-      record {
-        alike = (
-          c.clear-2.ensures.players
-              ∙ c.list-list.ensures.players
-              ∙ sym (first.alike.0 ∙ c.clear.ensures.players ∙ c.list-first.ensures.players),
-          c.clear-2.ensures.den ∙ sym (first.alike.1 ∙ c.clear.ensures.den),
-        );
-        order = ((c.clear-2.ensures.shaped, none.0), first.order);
-        ends = none.1 0;
-        steps = (first_step c.args.slowest c.args.faster.now c.requires.steps).1;
-        within = omega (arith, faster_within c.args.slowest c.args.faster.now c.requires.within);
-      },
-    )
+    grind (arith, none_ordered, first_step, faster_within, c.in_ok-push_part.ensures, c.clear-2.ensures.none, c.clear-2.ensures.players, c.list-list.ensures.players, c.clear.ensures.players, c.list-first.ensures.players)
 
 pub summed-push_part-requires-clause-may : goal.summed-push_part-requires-clause-may
 summed-push_part-requires-clause-may t c =
-    let counts = rw c.deref.ensures.value at c.count_near-free.ensures in record {
-      rises = λ less. (none_ordered c.clear.new.self c.clear.ensures.none).1 _;
-      least = λ k at less. omega arith;
-      within = counts.bound;
-    }
+    grind (arith, none_ordered, c.deref.ensures.value, c.count_near-free.ensures, c.clear.ensures.none)
 
 pub summed-push_part-requires-2-clause-may : goal.summed-push_part-requires-2-clause-may
 summed-push_part-requires-2-clause-may t c =
-    let counts = rw c.deref.ensures.value at c.count_near-free.ensures in
-    let step = (first_step c.args.slowest c.args.faster.now c.requires.steps).0 in
-    let size = c.args.self.now.demands.ok.0 in record {
-      rises = λ less d some.
-          let up = c.in_ok-push_sums.ensures.added.ends d some in
-          let above = counts.above c.count_near-free.result (omega arith)
-          (omega (arith, less, c.len.ensures, size)) in
-          omega (arith, up, above, step);
-      least = λ k at less. omega arith;
-      within = omega (arith, c.len.ensures, size);
-    }
+    grind (arith, first_step, c.deref.ensures.value, c.count_near-free.ensures, c.requires.steps, c.in_ok-push_sums.ensures.added.ends, c.len.ensures)
 
 pub summed-returns-clause-sums : goal.summed-returns-clause-sums
 summed-returns-clause-sums t c =

@@ -1,5 +1,5 @@
 use Rattle.gf_form.proofs.Common.{◌∙◌}
-use Rattle.gf_form.proofs.lemmas.rows.SettledRows.{settled_next, some_stride, step_within}
+use Rattle.gf_form.proofs.lemmas.rows.PairRows.{settled_next, some_stride, step_within}
 use Rattle.gf_form.proofs.rows.terms.Terms.choose.Goals as goal
 
 pub part_of-before-requires : goal.part_of-before-requires

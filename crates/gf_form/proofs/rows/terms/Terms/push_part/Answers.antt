@@ -1,6 +1,5 @@
-use Rattle.gf_form.proofs.Common.{arith, lowered, term_at, ◌-◌, ◌≡◌}
-use Rattle.gf_form.proofs.lemmas.rows.Merges.{skips, waits}
-use Rattle.gf_form.proofs.lemmas.rows.PushedTerms.{more_pushing, part_more}
+use Rattle.gf_form.proofs.Common.{lowered, term_at, arith}
+use Rattle.gf_form.proofs.lemmas.rows.Merges.{skips, waits, more_pushing, part_more}
 use Rattle.gf_form.proofs.rows.terms.Terms.push_part.Goals as goal
 
 pub loop-place-preserved : goal.loop-place-preserved
@@ -23,6 +22,4 @@ loop-place-preserved c =
 
 pub returns-clause-pushed : goal.returns-clause-pushed
 returns-clause-pushed c =
-    let past : c.loop-place.place - c.args.start ≡ c.args.end - c.args.start =
-    omega (arith, c.loop-place-test.false, c.loop-place.auto.place) in
-    cc (c.loop-place.invariant.pushing.is)
+    grind (arith, c.loop-place.invariant.pushing.is)

@@ -1,6 +1,6 @@
-use Rattle.gf_form.proofs.Common.{actions_at, arith, length-map, ◌∷◌}
+use Rattle.gf_form.proofs.Common.{actions_at, length-map, arith, ◌∷◌}
 use Rattle.gf_form.proofs.lemmas.rows.ChoiceSums.{settled_summed}
-use Rattle.gf_form.proofs.lemmas.rows.SettledRows.{settled_from}
+use Rattle.gf_form.proofs.lemmas.rows.PairRows.{settled_from}
 use Rattle.gf_form.proofs.rows.written.Written.+rows.Goals as goal
 
 pub push_rows-push_last-requires-clause-settles : goal.push_rows-push_last-requires-clause-settles
@@ -35,6 +35,4 @@ push_summed-push_each-requires t c =
 
 pub push_each-choose-requires-clause-settled : goal.push_each-choose-requires-clause-settled
 push_each-choose-requires-clause-settled t c =
-    let inv = c.loop-rest.invariant in
-    settled_from c.args.asked.now c.args.terms.now (c.args.slowest ∷ c.args.faster.now) c.args.run
-    c.loop-rest.rest inv.3 inv.4 inv.0 inv.2 c.requires.settled
+    grind (arith, settled_from, c.loop-rest.invariant, c.requires.settled)

@@ -1,8 +1,8 @@
-use Rattle.gf_form.proofs.Common.{◌≡◌, ◌+◌, Err, ap, arith, subst}
-use Rattle.gf_form.proofs.Common.{asked_profiles, HasValues, IsFirstWithout}
+use Rattle.gf_form.proofs.Common.{IsFirstWithout, asked_profiles, HasValues, arith, subst, Err, ◌+◌}
+use Rattle.gf_form.proofs.Common.{◌≡◌, ap}
 use Rattle.gf_form.proofs.lemmas.strategies.PickedProfiles.{numbered_at}
 use Rattle.gf_form.proofs.lemmas.rows.PairRows.{next_written}
-use Rattle.gf_form.proofs.lemmas.rows.RowsMade.{first_without}
+use Rattle.gf_form.proofs.lemmas.form.Forms.{first_without}
 use Rattle.gf_form.proofs.rows.written.Written.push_walked.Goals as goal
 
 pub returns-in-Ok-clause-written : goal.returns-in-Ok-clause-written

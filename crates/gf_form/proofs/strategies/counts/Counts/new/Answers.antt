@@ -1,5 +1,5 @@
-use Rattle.gf_form.proofs.Common.{arith, length-map, map-append, length-profiles}
-use Rattle.gf_form.proofs.lemmas.rows.DigitPlaces.{product_joined}
+use Rattle.gf_form.proofs.Common.{length-profiles, length-map, map-append, arith}
+use Rattle.gf_form.proofs.lemmas.rows.Digits.{product_joined}
 use Rattle.gf_form.proofs.lemmas.strategies.CountedActions.{as_many_players, next_player, take_past}
 use Rattle.gf_form.proofs.lemmas.strategies.CountedActions.{strategy_counts, fits_so_far}
 use Rattle.gf_form.proofs.strategies.counts.Counts.new.Goals as goal

@@ -1,5 +1,5 @@
 use Rattle.gf_form.proofs.Common.{arith}
-use Rattle.gf_form.proofs.lemmas.values.NodesListed.{child_there}
+use Rattle.gf_form.proofs.lemmas.values.Walks.{child_there}
 use Rattle.gf_form.proofs.values.nodes.Nodes.child.Goals as goal
 
 pub overflow_add-result : goal.overflow_add-result

@@ -1,5 +1,5 @@
-use Rattle.gf_form.proofs.Common.{arith, length-append, ◌≡◌, ◌∷◌, [], ap, length}
-use Rattle.gf_form.proofs.lemmas.values.NodesListed.{list_more, sizes_fall}
+use Rattle.gf_form.proofs.Common.{length-append, length, arith, ◌∷◌, ◌≡◌, [], ap}
+use Rattle.gf_form.proofs.lemmas.values.Walks.{list_more, sizes_fall}
 use Rattle.gf_form.proofs.values.nodes.Nodes.new.Goals as goal
 
 pub loop-branches-smaller : goal.loop-branches-smaller

@@ -1,5 +1,5 @@
-use Rattle.gf_form.proofs.Common.{drop, length, map, tree_of}
-use Rattle.gf_form.proofs.lemmas.values.NodesListed.{AreListed, sizes}
+use Rattle.gf_form.proofs.Common.{tree_of, length, drop, map}
+use Rattle.gf_form.proofs.lemmas.values.Walks.{AreListed, sizes}
 use Rattle.gf_form.proofs.values.nodes.Nodes.new.Given as goal
 
 abbrev pub invariant-loop-branches : goal.invariant-loop-branches

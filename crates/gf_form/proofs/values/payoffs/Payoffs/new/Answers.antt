@@ -1,5 +1,5 @@
-use Rattle.gf_form.proofs.Common.{arith, map-append}
-use Rattle.gf_form.proofs.lemmas.values.PaidRows.{all_rows, one_row}
+use Rattle.gf_form.proofs.Common.{map-append, arith}
+use Rattle.gf_form.proofs.lemmas.values.Walks.{all_rows, one_row}
 use Rattle.gf_form.proofs.values.payoffs.Payoffs.new.Goals as goal
 
 pub loop-before-preserved : goal.loop-before-preserved

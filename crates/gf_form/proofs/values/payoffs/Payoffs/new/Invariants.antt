@@ -1,5 +1,5 @@
 use Rattle.gf_form.proofs.Common.{map}
-use Rattle.gf_form.proofs.lemmas.values.PaidRows.{ArePaidTo}
+use Rattle.gf_form.proofs.lemmas.values.Walks.{ArePaidTo}
 use Rattle.gf_form.proofs.values.payoffs.Payoffs.new.Given as goal
 
 abbrev pub invariant-loop-before : goal.invariant-loop-before

@@ -1,5 +1,5 @@
 use Rattle.gf_form.proofs.Common.{arith}
-use Rattle.gf_form.proofs.lemmas.values.PaidRows.{own_is}
+use Rattle.gf_form.proofs.lemmas.values.Walks.{own_is}
 use Rattle.gf_form.proofs.values.walk.Walk.close.Goals as goal
 
 pub returns-in-Ok-clause-gives : goal.returns-in-Ok-clause-gives

@@ -1,5 +1,5 @@
 use Rattle.gf_form.proofs.Common.{arith}
-use Rattle.gf_form.proofs.lemmas.values.PaidRows.{below_players}
+use Rattle.gf_form.proofs.lemmas.values.Walks.{below_players}
 use Rattle.gf_form.proofs.lemmas.values.ValuesComputed.{none_stays}
 use Rattle.gf_form.proofs.values.walk.Walk.leave.Goals as goal
 

@@ -1,5 +1,5 @@
 use Rattle.std.proofs.Common.{◌≡◌, ◌++◌}
-use Rattle.gf_nfg.proofs.lemmas.tables.LabelsCounted.{counted_rest}
+use Rattle.gf_nfg.proofs.lemmas.tables.LabelLists.{counted_rest}
 use Rattle.gf_nfg.proofs.table.labels.Labels.extend_counted.Given as goal
 
 abbrev pub invariant-loop-before : goal.invariant-loop-before

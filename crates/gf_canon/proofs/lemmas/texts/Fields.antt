@@ -1,0 +1,123 @@
+-- Lists in braces, and lines field by field.
+use Rattle.gf_canon.proofs.Common
+use Common.{flat_map-append, InformationSet, length-append, action_fields, if◌then◌else◌, list_text}
+use Common.{append_assoc, mover_fields, heading_text, length-drop, others_text, step_fields, length}
+use Common.{append-nil, lines_text, file_nodes, first_line, game_text, node_text, node_line, Option}
+use Common.{drop-set, take_all, flat_map, label_of, FileNode, decimal, Result, quoted, []}
+use Common.{spaced, SetKey, arith, is_ok, codes, zero, List, ◌++◌, drop, None, Some, refl, OnOk, ap}
+use Common.{heading_in, Heading, take, Game, ◌≡◌, suc, ◌+◌, ◌<◌, ◌∷◌, map, sym, ◌∙◌, ◌-◌, ◌≤◌, Err, set, Use, ◌^◌, Ok, ℕ}
+use Rattle.gf_fraction.specs.NumberText.{number_text}
+use Rattle.std.proofs.lemmas.Fmt.{length-decimal-le}
+use Rattle.gf_fraction.specs.Ratio.{Ratio}
+use Rattle.gf_token.specs.declared.label.Label.{Label}
+use Rattle.gf_tree.specs.Actions.{actions_of}
+use Rattle.gf_tree.specs.declared.game.action.Action.{Action}
+
+-- ---- lists in braces
+
+-- each item and a space, and the closing brace
+abbrev pub items_text : List (List ℕ) → List ℕ
+items_text [] = codes "}"
+items_text (item ∷ items) = item ++ 32 ∷ items_text items
+
+spaced_items : (first : List ℕ) (items : List (List ℕ))
+    → spaced (first ∷ (items ++ codes "}" ∷ [])) ≡ first ++ 32 ∷ items_text items
+spaced_items first [] = refl
+spaced_items first (item ∷ items) = ap (λ (bs : List ℕ). first ++ 32 ∷ bs) (spaced_items item items)
+
+pub list_text_is : (items : List (List ℕ)) → list_text items ≡ codes "{ " ++ items_text items
+list_text_is items = spaced_items (codes "{") items
+
+-- what is still to come of a list
+abbrev pub labels_left : List Label → List ℕ
+labels_left labels = items_text (map quoted (map label_of labels))
+
+abbrev pub actions_left : List Action → List ℕ
+actions_left actions = items_text (flat_map action_fields (actions_of actions))
+
+abbrev pub payoffs_left : List Ratio → List ℕ
+payoffs_left payoffs = items_text (map number_text payoffs)
+
+-- the whole list, of which nothing is left
+pub list_closed : (all : List (List ℕ)) (old opened out new left : List ℕ)
+    → opened ≡ old ++ codes "{ " → new ≡ out ++ codes "}" → left ≡ codes "}"
+    → out ++ left ≡ opened ++ items_text all → new ≡ old ++ list_text all
+list_closed all old opened out new left e f none h = grind (arith, append_assoc, list_text_is)
+
+-- ---- fields one after another
+
+pub spaced_is : (first : List ℕ) (items : List (List ℕ))
+    → spaced (first ∷ items) ≡ first ++ others_text items
+spaced_is first [] = sym (append-nil first)
+spaced_is first (item ∷ items) = ap (λ (bs : List ℕ). first ++ 32 ∷ bs) (spaced_is item items)
+
+others_joined : (xs ys : List (List ℕ)) → others_text (xs ++ ys) ≡ others_text xs ++ others_text ys
+others_joined [] ys = refl
+others_joined (x ∷ xs) ys = grind (arith, append_assoc, others_joined xs ys)
+
+spaced_joined : (x : List ℕ) (xs ys : List (List ℕ))
+    → spaced (x ∷ (xs ++ ys)) ≡ spaced (x ∷ xs) ++ others_text ys
+spaced_joined x xs ys = grind (arith, spaced_is, others_joined, append_assoc)
+
+-- who moves, and what comes after
+pub mover_joined : (name : List ℕ) (player : ℕ) (ys : List (List ℕ))
+    → spaced (mover_fields name player ++ ys) ≡ spaced (mover_fields name player) ++ others_text ys
+mover_joined name zero ys = spaced_joined (codes "c") (quoted name ∷ []) ys
+mover_joined name (suc player) ys =
+    spaced_joined (codes "p") (quoted name ∷ decimal (suc player) ∷ []) ys
+
+pub step_joined : (name : List ℕ) (set : Option (Use SetKey InformationSet)) (ys : List (List ℕ))
+    → spaced (step_fields name set ++ ys) ≡ spaced (step_fields name set) ++ others_text ys
+step_joined name None ys = spaced_joined (codes "t") (quoted name ∷ []) ys
+step_joined name (Some set) ys = grind (arith, append_assoc, mover_joined, others_joined)
+
+-- ---- lines
+
+-- a line, written in two parts and its end
+pub line_written : (old out1 out2 out3 x y line : List ℕ)
+    → out1 ≡ old ++ x → out2 ≡ out1 ++ y → out3 ≡ out2 ++ 10 ∷ [] → line ≡ x ++ y
+    → out3 ≡ old ++ (line ++ 10 ∷ [])
+line_written old out1 out2 out3 x y line e1 e2 e3 e = grind (arith, append_assoc)
+
+-- the lines of the nodes
+abbrev pub node_lines : List FileNode → List ℕ
+node_lines nodes = flat_map node_line nodes
+
+lines_of_nodes : (nodes : List FileNode) → lines_text (map node_text nodes) ≡ node_lines nodes
+lines_of_nodes [] = refl
+lines_of_nodes (n ∷ nodes) = ap (λ (bs : List ℕ). node_line n ++ bs) (lines_of_nodes nodes)
+
+-- the text of a game is its heading and the lines of its nodes
+pub game_text_is : (g : Game)
+    → game_text g ≡ heading_text (heading_in g) ++ node_lines (file_nodes g)
+game_text_is g =
+    flat_map-append (λ (line : List ℕ). line ++ 10 ∷ [])
+    (first_line (heading_in g) ∷ quoted g.comment ∷ [] ∷ []) (map node_text (file_nodes g))
+    ∙ ap (λ (bs : List ℕ). heading_text (heading_in g) ++ bs) (lines_of_nodes (file_nodes g))
+
+pub text_done : (g : Game) (h : Heading) (left : List FileNode) (old heading out : List ℕ)
+    → h ≡ heading_in g → heading ≡ old ++ heading_text h → left ≡ []
+    → out ++ node_lines left ≡ heading ++ node_lines (file_nodes g) → out ≡ old ++ game_text g
+text_done g h left old heading out is e none lines =
+    grind (arith, append-nil, append_assoc, game_text_is)
+
+-- ---- numbers
+
+-- a number of 32 bits has ten digits at most
+pub ten_digits : (n : ℕ) → n < 2 ^ 32 → length (decimal n) ≤ 10
+ten_digits n h = length-decimal-le 10 n (omega arith) (omega arith) (omega arith)
+
+appended : {A E : Type 0} (r : Result A E) (old new x y : List ℕ)
+    → new ≡ (if is_ok r then old ++ x else old) → x ≡ y → OnOk r (new ≡ old ++ y)
+appended (Ok a) old new x y e f = e ∙ ap (λ (bs : List ℕ). old ++ bs) f
+appended (Err a) old new x y e f = tt
+
+-- a space and the digits, which end at 11
+pub number_appended : {A E : Type 0} (r : Result A E) (old new text : List ℕ) (start m n : ℕ)
+    → m ≡ n → start + length (decimal m) ≡ 11 → 0 < length (decimal m) → length (decimal m) ≤ 10
+    → drop start text ≡ decimal m ++ []
+    → new ≡ (if is_ok r then old ++ take (11 - (start - 1))
+    (drop (start - 1) (set text (start - 1) 32)) else old)
+    → OnOk r (new ≡ old ++ 32 ∷ (decimal n ++ []))
+number_appended r old new text start m n is ends some short written e =
+    grind (arith, length-append, length-drop, drop-set, appended, take_all)

@@ -1,0 +1,374 @@
+-- Rows that tell which sets are relevant: what a level tells of strategies after a choice, or at a
+-- digit at which nothing is demanded, and which strategies have a row.
+use Rattle.gf_form.proofs.Common
+use Common.{AllByRecursion, reduced_labels, reduced_label, ◌^◌}
+use Common.{IsNonDecreasingBy, recursion_from_All, All-from_get_or, All-from_recursion, ◌≡◌, ◌%◌}
+use Common.{all_choices, ArePositive, actions_of, strategies, choices_at, length-map}
+use Common.{get_or-set_other, get_or_append_left, AreFirstsOf}
+use Common.{relevant_sets, IsPermutation, All-permutation, mul-div_cancel_left}
+use Common.{length-append, length-set, OwnDigit, steps_to, IsChosen, numbered, map-append}
+use Common.{player_keys, all_both, all_parts, map_twice, IsLevel, reduced}
+use Common.{dvd-mul_left, div-lt_iff_lt-mul, is_met, product, IsFine, length, get_or, Level, Visit, ℕ}
+use Common.{subst, arith, false, Bool, List, take, drop, ◌++◌, refl, Game, ◌+◌, ◌-◌, ◌*◌, ◌/◌}
+use Common.{◌<◌, ◌≤◌, ◌∷◌, set, map, sym, ◌∙◌, ap, [], mod-lt}
+use Common.{◌∣◌, slice_get, slice_get-get_or, Some, take-append-drop}
+use Rattle.gf_form.specs.inner.reduced.Levels.{Marks}
+use Rattle.gf_form.specs.inner.reduced.Rows.{AreGiven, AreTold, ChooseInTurn, HasRow}
+use Rattle.gf_form.specs.inner.reduced.Rows.{IsPlain, IsTold}
+use Rattle.std.proofs.lemmas.List.Sorted.{IsPermutation-sym}
+use Rattle.gf_form.proofs.lemmas.reduced.LevelsChosen.{no_visit}
+use Common.{mul-le-mul_right, all_weaker, is_relevant, choice_at, Vec, Global}
+use Rattle.gf_form.specs.declared.reduced.labels.Found.{Found}
+use Rattle.gf_form.specs.declared.reduced.labels.Relevance.{Relevance}
+use Rattle.gf_form.proofs.lemmas.reduced.Searches.{steps_positive}
+use Rattle.gf_form.proofs.lemmas.strategies.Choices.{choices_next}
+use Rattle.gf_form.proofs.lemmas.strategies.CountedActions.{product_positive}
+use Rattle.std.proofs.lemmas.List.{ext_get_or, take_more, take_all, get_or-set_same}
+use Rattle.std.proofs.lemmas.Bool.{cases_eq}
+use Common.{inl, inr}
+use Rattle.gf_form.proofs.lemmas.strategies.StrategiesByNumber.{all_at}
+use Rattle.gf_form.proofs.lemmas.strategies.Choices.{long, length-all_choices}
+use Rattle.gf_form.proofs.lemmas.reduced.FirstStrategies.{flags_fit, reduced_shown_at}
+use Common.{IsGame, action_counts, shown}
+use Rattle.std.proofs.Math.Nat.{mod-mod_of_dvd}
+
+-- ---- choices in turn
+
+actions_positive : (digits : List OwnDigit) → AllByRecursion IsFine digits
+    → ArePositive (actions_of digits)
+actions_positive [] h = tt
+actions_positive (d ∷ digits) h = (h.0.actions, actions_positive digits h.1)
+
+module _ {g : Game} {player count : ℕ} {d : OwnDigit} {faster : List OwnDigit}
+    (turn : ChooseInTurn g player (d ∷ faster) count) where
+  abbrev each : ℕ
+  each = count / d.actions
+
+  pub some_each : 0 < product (actions_of faster)
+  some_each = product_positive (actions_of faster) (actions_positive faster turn.fine.1)
+
+  each_is : each ≡ product (actions_of faster)
+  each_is = grind (arith, mul-div_cancel_left, turn.counted, turn.fine.0.actions)
+
+  pub each_some : 0 < each
+  each_some = omega (arith, each_is, some_each)
+
+  pub count_some : 0 < count
+  count_some =
+      subst (λ (n : ℕ). 0 < n) (sym turn.counted)
+      (product_positive (actions_of (d ∷ faster)) (actions_positive (d ∷ faster) turn.fine))
+
+  parts : (n : ℕ) → n < length (strategies g player) → choices_at g player (d ∷ faster) n
+      ≡ (n % count / each + 1) ∷ get_or (all_choices (actions_of faster)) (n % each) []
+  parts n within =
+      let below : n % count < d.actions * product (actions_of faster) =
+      omega (arith, mod-lt n count_some, turn.counted) in
+      let whole : count ≡ d.actions * each = cc (turn.counted, each_is) in
+      let same : n % count % each ≡ n % each =
+      mod-mod_of_dvd each n
+      (subst (λ (m : ℕ). each ∣ m) (sym whole) (dvd-mul_left each d.actions)) in
+      let next = choices_next d.actions (actions_of faster) (n % count) some_each below in
+      grind (arith, turn.chosen n within, next, each_is, same)
+
+  -- the action at the digit
+  pub chosen_here : (n : ℕ) → n < length (strategies g player)
+      → get_or (numbered g player n) d.place 0 ≡ n % count / each + 1
+  chosen_here n within = ap (λ (l : List ℕ). get_or l 0 0) (parts n within)
+
+  pub turn_next : ChooseInTurn g player faster each
+  turn_next = record {
+    fine = turn.fine.1;
+    counted = each_is;
+    chosen = λ n within. ap (drop 1) (parts n within);
+  }
+
+  pub action_fits : (n before : ℕ) → before ≡ n % count / each
+      → (before + 1) * d.step + d.step < 2 ^ 64
+  action_fits n before is =
+      let less : n % count / each < d.actions =
+      grind (arith, div-lt_iff_lt-mul, mod-lt, each_some, count_some, each_is, turn.counted) in
+      let upto : before + 1 ≤ d.actions = omega (arith, less, is) in
+      omega (arith, turn.fine.0.fits, mul-le-mul_right d.step upto)
+
+-- ---- lists
+
+permuted : {A : Type 0} (P : A → Type 0) (xs ys : List A) → IsPermutation xs ys
+    → AllByRecursion P xs → AllByRecursion P ys
+permuted P xs ys same h =
+    recursion_from_All P ys (All-permutation P xs ys same (All-from_recursion P xs h))
+
+both : {A : Type 0} (P Q R : A → Type 0) → ((x : A) → P x → Q x → R x) → (xs : List A)
+    → AllByRecursion P xs → AllByRecursion Q xs → AllByRecursion R xs
+both P Q R h [] p q = tt
+both P Q R h (x ∷ xs) p q = (h x p.0 q.0, both P Q R h xs p.1 q.1)
+
+-- what is right of each place is so if one place is set, and that rightly
+set_right : (Right : ℕ → ℕ → Type 0) (xs : List ℕ) (at row : ℕ) → at < length xs → Right at row
+    → (place : ℕ) → Right place (get_or xs place 0) → Right place (get_or (set xs at row) place 0)
+set_right Right xs at row inside right place old = elim (cases_eq place at) [
+  | inl same ↦ subst (λ (p : ℕ). Right p (get_or (set xs at row) p 0)) (sym same)
+      (rw (get_or-set_same xs at row 0 inside) right)
+  | inr other ↦ rw (get_or-set_other xs at place row 0 other) old
+]
+
+-- ---- what a level tells
+
+-- whatever is chosen at a digit at which no visit demands anything
+free_met : (place step action : ℕ) (steps choices : List ℕ) (visits : List Visit)
+    → AllByRecursion (λ v. v.demands < step) visits
+    → is_met place (step ∷ steps) (action ∷ choices) visits ≡ is_met place steps choices visits
+free_met place step action steps choices [] h = refl
+free_met place step action steps choices (v ∷ visits) h =
+    grind (arith, free_met place step action steps choices visits h.1)
+
+all_below : (visits : List Visit) (step : ℕ) (last : Visit)
+    → IsNonDecreasingBy (λ v. v.demands) visits
+    → slice_get visits (length visits - 1) ≡ Some last → last.demands < step
+    → AllByRecursion (λ v. v.demands < step) visits
+all_below visits step last up is less =
+    recursion_from_All (λ (v : Visit). v.demands < step) visits
+    (All-from_get_or (λ (v : Visit). v.demands < step) visits no_visit (λ k inside.
+    let upto = up k (length visits - 1) no_visit (omega (arith, inside)) (omega (arith, inside)) in
+    grind (arith, upto, slice_get-get_or)))
+
+module _ {g : Game} {player count : ℕ} {d : OwnDigit} {faster : List OwnDigit} {numbers : List ℕ}
+    {level : Level} (turn : ChooseInTurn g player (d ∷ faster) count) where
+  free_told : AllByRecursion (λ v. v.demands < d.step) level.visits.items
+      → (found : Found) → IsTold g player (d ∷ faster) numbers level found
+      → IsTold g player faster numbers level found
+  free_told below found told = record {
+    there = told.there;
+    number = told.number;
+    within = told.within;
+    tells = λ place among.
+        let free = free_met place d.step (get_or (numbered g player found.number) d.place 0)
+        (steps_to faster) (choices_at g player faster found.number) level.visits.items below in
+        grind (arith, told.tells place among, free);
+  }
+
+  pub told_free : (all ordered : List Found) (last : Visit)
+      → AreTold g player (d ∷ faster) numbers level all
+      → slice_get level.visits.items (length level.visits.items - 1) ≡ Some last
+      → last.demands < d.step → IsPermutation all ordered
+      → AreTold g player faster numbers level ordered
+  told_free all ordered last told is less same = record {
+    levelled = told.levelled;
+    each = all_weaker (IsTold g player (d ∷ faster) numbers level)
+        (IsTold g player faster numbers level)
+        (free_told (all_below level.visits.items d.step last told.levelled.ordered is less)) ordered
+        (permuted (IsTold g player (d ∷ faster) numbers level) all ordered same told.each);
+  }
+
+  module _ (before : ℕ) {left : Level} {action : ℕ} (is_next : action ≡ before + 1)
+      (chosen : IsChosen d.step action level left)
+      (levelled : IsLevel (length level.known.items) left) where
+    chosen_told : IsLevel (length (player_keys g player)) level → (found : Found)
+        → found.number % count / (count / d.actions) ≡ before
+        → IsTold g player (d ∷ faster) numbers level found
+        → IsTold g player faster numbers left found
+    chosen_told old found same told = record {
+      there = told.there;
+      number = told.number;
+      within = told.within;
+      tells = λ place among.
+          let left_is = chosen place (steps_to faster) (choices_at g player faster found.number)
+          (omega (arith, among, old.counted)) (steps_positive faster turn.fine.1) in
+          let here = chosen_here turn found.number told.within in
+          grind (arith, told.tells place among, left_is, here, same, is_next);
+    }
+
+    pub told_chosen : (all done rest own : List Found) (k : ℕ)
+        → AreTold g player (d ∷ faster) numbers level all → all ≡ done ++ rest
+        → own ≡ take k rest
+        → AllByRecursion (λ found. found.number % count / (count / d.actions) ≡ before) (take k rest)
+        → AreTold g player faster numbers left own
+    told_chosen all done rest own k told are is same =
+        let P = IsTold g player (d ∷ faster) numbers level in
+        let later = (all_parts P done rest (subst (AllByRecursion P) are told.each)).1 in
+        let taken = all_parts P (take k rest) (drop k rest)
+        (subst (AllByRecursion P) (sym (take-append-drop k rest)) later) in record {
+          levelled = rw told.levelled.counted at levelled;
+          each = rw is (both (λ found. found.number % count / (count / d.actions) ≡ before) P
+              (IsTold g player faster numbers left) (chosen_told told.levelled) (take k rest) same
+              taken.0);
+        }
+
+-- ---- rows
+
+abbrev pub no_found : Found
+no_found = record { place = 0; number = 0 }
+
+module _ {g : Game} {player : ℕ} {digits : List OwnDigit} {numbers : List ℕ} {level : Level}
+    (plain : IsPlain digits level) (old : IsLevel (length (player_keys g player)) level)
+    {met : List Bool} (marks : Marks level met) where
+  pub row_is : (found : Found) → IsTold g player digits numbers level found
+      → met ≡ relevant_sets g player (numbered g player found.number)
+  row_is found told =
+      let long = length-map (player_keys g player)
+      (is_relevant g (choice_at (player_keys g player) (numbered g player found.number))) in
+      ext_get_or false met (relevant_sets g player (numbered g player found.number))
+      (marks.counted ∙ old.counted ∙ sym long)
+      (λ place among.
+      let inside : place < length (player_keys g player) =
+      omega (arith, among, marks.counted, old.counted) in
+      marks.marked place (omega (arith, inside, old.counted))
+      ∙ sym (plain place (choices_at g player digits found.number))
+      ∙ sym (told.tells place inside))
+
+module _ {g : Game} {player : ℕ} {numbers : List ℕ} where
+  -- one more row, which nothing has yet
+  pub row_pushed : (before after : Relevance) (row : Vec Bool Global)
+      → after.rows.items ≡ before.rows.items ++ row ∷ [] → after.row_of ≡ before.row_of
+      → AreGiven g player numbers before after []
+  row_pushed before after row more same = record {
+    room = ap (λ (v : Vec ℕ Global). length v.items) same;
+    kept = λ place has. record {
+      within = grind (arith, has.within, length-append);
+      is = grind (arith, has.within, has.is, map-append, get_or_append_left, length-map);
+    };
+    given = tt;
+  }
+
+  -- a strategy has one in addition
+  pub one_given : (before r after : Relevance) (done : List Found) (found : Found) (row : ℕ)
+      → AreGiven g player numbers before r done → after.rows ≡ r.rows
+      → after.row_of.items ≡ set r.row_of.items found.place row
+      → found.place < length r.row_of.items → row < length r.rows.items
+      → get_or (map (λ row. row.items) r.rows.items) row []
+      ≡ relevant_sets g player (numbered g player (get_or numbers found.place 0))
+      → AreGiven g player numbers before after (done ++ found ∷ [])
+  one_given before r after done found row given same next inside there is =
+      let rows = map (λ (row : Vec Bool Global). row.items) r.rows.items in
+      let Right = λ (place at : ℕ). (at < length r.rows.items)
+      × (get_or rows at [] ≡ relevant_sets g player (numbered g player (get_or numbers place 0))) in
+      let has : (place : ℕ) → Right place (get_or after.row_of.items place 0)
+      → HasRow g player numbers after place =
+      λ place right. record { within = rw same right.0; is = rw same right.1 } in
+      let more = λ (place : ℕ) (old : HasRow g player numbers r place).
+      has place (rw next (set_right Right r.row_of.items found.place row inside (there, is) place
+      (old.within, old.is))) in record {
+        room = grind (arith, given.room, length-set);
+        kept = λ place old. more place (given.kept place old);
+        given = all_both (λ found. HasRow g player numbers after found.place) done (found ∷ [])
+            (all_weaker (λ found. HasRow g player numbers r found.place)
+            (λ found. HasRow g player numbers after found.place)
+            (λ found old. more found.place old) done given.given) (
+              has found.place (rw next (rw (get_or-set_same r.row_of.items found.place row 0 inside)
+                  (there, is))),
+              tt,
+            );
+      }
+
+  pub next_given : {digits : List OwnDigit} {level : Level} {all : List Found}
+      → IsPlain digits level → AreTold g player digits numbers level all
+      → (before r after : Relevance) (i row : ℕ) → i < length all
+      → length before.row_of.items ≡ length numbers
+      → AreGiven g player numbers before r (take i all) → after.rows ≡ r.rows
+      → after.row_of.items ≡ set r.row_of.items (get_or all i no_found).place row
+      → row < length r.rows.items
+      → Marks level (get_or (map (λ row. row.items) r.rows.items) row [])
+      → AreGiven g player numbers before after (take (i + 1) all)
+  next_given {digits} {level} {all} plain told before r after i row less room given same next there
+      marks =
+      let found = get_or all i no_found in
+      let one = all_at (IsTold g player digits numbers level) all i no_found told.each less in
+      rw (take_more all i no_found less)
+      (one_given before r after (take i all) found row given same next
+      (omega (arith, one.there, room, given.room)) there
+      (row_is plain told.levelled marks found one
+      ∙ ap (λ (n : ℕ). relevant_sets g player (numbered g player n)) (sym one.number)))
+
+  -- nothing but the rows counts
+  pub nothing_given : (before after : Relevance) → after.rows ≡ before.rows
+      → after.row_of ≡ before.row_of → AreGiven g player numbers before after []
+  nothing_given before after rows_are row_of_are = record {
+    room = ap (λ (v : Vec ℕ Global). length v.items) row_of_are;
+    kept = λ place has. record {
+      within = rw (rows_are, row_of_are) has.within;
+      is = rw (rows_are, row_of_are) has.is;
+    };
+    given = tt;
+  }
+
+  pub both_given : (before r after : Relevance) (done own : List Found)
+      → AreGiven g player numbers before r done → AreGiven g player numbers r after own
+      → AreGiven g player numbers before after (done ++ own)
+  both_given before r after done own first second = record {
+    room = second.room ∙ first.room;
+    kept = λ place has. second.kept place (first.kept place has);
+    given = all_both _ done own
+        (all_weaker _ _ (λ found has. second.kept found.place has) done first.given)
+        second.given;
+  }
+
+  pub given_permuted : (before after : Relevance) (strategies ordered : List Found)
+      → IsPermutation strategies ordered → AreGiven g player numbers before after ordered
+      → AreGiven g player numbers before after strategies
+  given_permuted before after strategies ordered same given = record {
+    room = given.room;
+    kept = given.kept;
+    given = permuted _ _ _ (IsPermutation-sym _ _ same) given.given;
+  }
+
+-- each strategy has a row if all do that are listed
+pub rows_given : {g : Game} {player : ℕ} {numbers : List ℕ} (before after : Relevance)
+    (all : List Found) → AreGiven g player numbers before after all
+    → length all ≡ length numbers
+    → ((place : ℕ) (d : Found) → place < length numbers
+    → get_or all place d ≡ record { place = place; number = get_or numbers place 0 })
+    → (place : ℕ) → place < length numbers → HasRow g player numbers after place
+rows_given {g} {player} {numbers} before after all given long each place less =
+    subst (λ (found : Found). HasRow g player numbers after found.place) (each place no_found less)
+    (all_at (λ found. HasRow g player numbers after found.place) all place no_found given.given
+    (omega (arith, less, long)))
+
+-- ---- labels
+
+module _ (g : Game) (game : IsGame g) (player : ℕ) (numbers : List ℕ)
+    (firsts : AreFirstsOf g numbers player) where
+  pub number_within : (i : ℕ) → i < length numbers
+      → get_or numbers i 0 < product (action_counts g player)
+  number_within i less =
+      omega (
+        arith,
+        all_at (λ n. n < length (strategies g player)) numbers i 0 firsts.1 less,
+        length-all_choices (action_counts g player),
+      )
+
+  module _ (r : Relevance) (i : ℕ) (less : i < length numbers)
+      (has : HasRow g player numbers r i) where
+    abbrev row : List Bool
+    row = get_or (map (λ row. row.items) r.rows.items) (get_or r.row_of.items i 0) []
+
+    abbrev s : List ℕ
+    s = numbered g player (get_or numbers i 0)
+
+    inside : get_or numbers i 0 < length (strategies g player)
+    inside = all_at (λ n. n < length (strategies g player)) numbers i 0 firsts.1 less
+
+    pub row_fits : length row ≡ length s
+    row_fits = ap length has.is ∙ flags_fit g game player (get_or numbers i 0) inside
+
+    label_written : reduced_label (shown row s) ≡ reduced_label (reduced g player s)
+    label_written =
+        ap (λ (flags : List Bool). reduced_label (shown flags s)) has.is
+        ∙ ap reduced_label (sym (reduced_shown_at g game player (get_or numbers i 0) inside))
+
+    pub label_more : (flags : List Bool) (strategy label : List ℕ) (labels next : List (List ℕ))
+        → flags ≡ row → strategy ≡ s → label ≡ reduced_label (shown flags strategy)
+        → labels ≡ map (λ n. reduced_label (reduced g player (numbered g player n)))
+        (take i numbers)
+        → next ≡ labels ++ label ∷ []
+        → next ≡ map (λ n. reduced_label (reduced g player (numbered g player n)))
+        (take (i + 1) numbers)
+    label_more flags strategy label labels next flags_are is label_is labels_are next_is =
+        let text = label_is ∙ (λ k. reduced_label (shown (flags_are k) (is k))) ∙ label_written in
+        grind (arith, text, take_more numbers i 0 less, map-append)
+
+  pub labels_written : map (λ n. reduced_label (reduced g player (numbered g player n))) numbers
+      ≡ reduced_labels g player
+  labels_written = sym (map_twice reduced_label _ numbers) ∙ ap (map reduced_label) firsts.0
+
+pub ruleset written_steps = (number_within, row_fits, long, length-all_choices, take_all)
+
+pub ruleset row_steps = (each_some, count_some)

@@ -1,0 +1,9 @@
+use Rattle.gf_form.proofs.Common.{◌<◌, [], get_or, length, map, take}
+use Rattle.gf_form.specs.inner.reduced.Levels.{Marks}
+use Rattle.gf_form.specs.inner.reduced.Rows.{AreGiven}
+use Rattle.gf_form.proofs.reduced.labels.Relevance.push_row.Given as goal
+
+abbrev pub invariant-loop-found : goal.invariant-loop-found
+invariant-loop-found l = AreGiven l.player.game.now l.player.number l.numbers l.fn.self l.self
+    (take l.found-index l.strategies) × (l.row < length l.self.rows.items)
+    × Marks l.level (get_or (map (λ row. row.items) l.self.rows.items) l.row [])

@@ -1,0 +1,23 @@
+use Rattle.gf_nfg.proofs.Common.{◌<◌, arith, length}
+use Rattle.std.proofs.lemmas.List.{nil_from_length}
+use Rattle.gf_nfg.proofs.lemmas.tables.Listed.{in_turn_listed, in_turn_means, lacking, parts_told}
+use Rattle.gf_nfg.proofs.lemmas.tables.Listed.{some_is}
+use Rattle.gf_nfg.proofs.listed.ListedTable.told.Goals as goal
+
+pub invariant_of-result : goal.invariant_of-result
+invariant_of-result c =
+    let none = nil_from_length _
+    (lacking _ _ _ c.is_empty.ensures c.if-is_empty.true c.args.listing.kept.numbers.ok.0) in
+    in_turn_listed _ _ _ c.requires.1 _ c.in_ok-names.ensures none
+
+pub returns-then-is_empty : goal.returns-then-is_empty
+returns-then-is_empty c = λ bytes h.
+    let none = nil_from_length _
+    (lacking _ _ _ c.is_empty.ensures c.if-is_empty.true c.args.listing.kept.numbers.ok.0) in
+    in_turn_means _ _ _ h _ c.in_ok-names.ensures none
+
+pub returns : goal.returns
+returns c = λ bytes h.
+    let some : 0 < length c.args.listing.kept.numbers.items = grind arith in
+    let m = parts_told _ _ _ h (some_is _ some) in
+    rw c.in_ok-table.ensures (m.spelled, m.within)

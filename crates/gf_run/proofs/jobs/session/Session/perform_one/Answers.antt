@@ -1,0 +1,26 @@
+use Rattle.std.proofs.Common.{Err, Ok, refl}
+use Rattle.gf_run.specs.CollectionRun.{opened, unopened}
+use Rattle.gf_run.specs.declared.fault.RunFault.TheVariants.{Read}
+use Rattle.gf_run.specs.declared.fault.Which.TheVariants.{Only}
+use Rattle.gf_run.proofs.Reported.{reported}
+use Rattle.gf_run.proofs.jobs.session.Session.perform_one.Goals as goal
+
+pub returns-in-Err-clause-performed : goal.returns-in-Err-clause-performed
+returns-in-Err-clause-performed g c = (
+  Err (Read Only),
+  unopened c.in-Err.ensures refl refl
+      (reported _ (Read Only) _ _ _ c.called_input-name.ensures refl c.tell_unopened.ensures),
+)
+
+pub returns-in-Ok-run_one-clause-performed : goal.returns-in-Ok-run_one-clause-performed
+returns-in-Ok-run_one-clause-performed g c = (
+  Ok tt,
+  opened _ _ _ c.in-Ok.ensures.0 c.in-Ok.ensures.1 (refl, c.in-Ok-run_one.ensures) (refl, refl),
+)
+
+pub returns-clause-performed : goal.returns-clause-performed
+returns-clause-performed g c = (
+  Err c.in-Err-run_one.fault,
+  opened _ _ _ c.in-Ok.ensures.0 c.in-Ok.ensures.1 (refl, c.in-Err-run_one.ensures)
+      (reported _ _ _ _ _ c.called_input-name.ensures c.bytes.ensures c.tell_of_file.ensures),
+)

@@ -1,0 +1,26 @@
+use Rattle.std.proofs.Common.{Err, Ok, refl}
+use Rattle.gf_run.specs.CollectionRun.{opened, unopened}
+use Rattle.gf_run.specs.declared.fault.RunFault.TheVariants.{Read}
+use Rattle.gf_run.specs.declared.fault.Which.TheVariants.{Only}
+use Rattle.gf_run.proofs.Reported.{told_of}
+use Rattle.gf_run.proofs.jobs.session.Session.rewrite_next.Goals as goal
+
+pub returns-in-Err-clause-next : goal.returns-in-Err-clause-next
+returns-in-Err-clause-next g c = (
+  Err (Read Only),
+  unopened c.in-Err.ensures refl refl
+      (told_of _ (Read Only) _ _ _ c.name_of-name.ensures refl c.tell_unopened_of.ensures),
+)
+
+pub returns-in-Ok-rewrite-clause-next : goal.returns-in-Ok-rewrite-clause-next
+returns-in-Ok-rewrite-clause-next g c = (
+  Ok tt,
+  opened _ _ _ c.in-Ok.ensures.0 c.in-Ok.ensures.1 (refl, c.in-Ok-rewrite.ensures) (refl, refl),
+)
+
+pub returns-clause-next : goal.returns-clause-next
+returns-clause-next g c = (
+  Err c.in-Err-rewrite.field-0.fault,
+  opened _ _ _ c.in-Ok.ensures.0 c.in-Ok.ensures.1 (refl, c.in-Err-rewrite.ensures)
+      (told_of _ _ _ _ _ c.name_of-name.ensures c.bytes.ensures c.tell_of.ensures),
+)
