@@ -1,7 +1,8 @@
 //! The canonical text of a game file.
 
-ghost use Rattle.std.specs.Prelude.{◌≡◌, [], IfErr, IfOk, MatchResult};
+ghost use Rattle.std.specs.Prelude.{◌≡◌, IfErr, IfOk, MatchResult};
 ghost use Rattle.gf_token.specs.declared.fault.Why.TheVariants.{Memory};
+ghost use Rattle.gf_nfg.specs.TextPieces.{IsUngiven};
 ghost use Rattle.gf_tree.specs.Judgement.{IsJudged as IsExtensiveJudged};
 ghost use Rattle.gf_canon.specs.GameFile.{GameFile, canonical_text};
 ghost use Rattle.gf_canon.specs.CanonicalText.{IsCanonicalText, SpellsWithin};
@@ -19,7 +20,7 @@ use std::alloc::Global;
 /// The canonical text of an extensive file, written while it is read.
 fn canonical_efg(alloc: Global, input: &[u8], names: Names) -> Result<TextPieces, Fault>
     ensures text { IfOk result (λ text. IsTextBy names input.now text.rest) }
-    ensures none { IfOk result (λ text. text.piece ≡ []) }
+    ensures ungiven { IfOk result IsUngiven }
     ensures judged { IfErr result (λ fault. IsExtensiveJudged fault.why input.now fault.span) }
 {
     // A canonical text is seldom longer than the file.
@@ -32,7 +33,7 @@ fn canonical_efg(alloc: Global, input: &[u8], names: Names) -> Result<TextPieces
 #[tactic(auto, using(crate::proofs::lemmas::files::Refused::refusals))]
 fn text_of(alloc: Global, input: &[u8], names: Names) -> Result<TextPieces, Fault>
     ensures text { IfOk result (λ text. IsTextBy names input.now text.rest) }
-    ensures none { IfOk result (λ text. text.piece ≡ []) }
+    ensures ungiven { IfOk result IsUngiven }
     ensures refused { IfErr result (IsRefusedWith input.now) }
 {
     match kind_of(input)? {
@@ -62,7 +63,7 @@ fn text_of(alloc: Global, input: &[u8], names: Names) -> Result<TextPieces, Faul
 ///   is made, although most of it is not touched unless the text is made whole.
 pub fn canonical_text(alloc: Global, input: &[u8], names: Names) -> Result<TextPieces, Fault>
     ensures text { IfOk result (λ text. IsTextBy names input.now text.rest) }
-    ensures none { IfOk result (λ text. text.piece ≡ []) }
+    ensures ungiven { IfOk result IsUngiven }
     ensures only { (x : GameFile) → SpellsWithin input.now x → MatchResult result
         (λ text. text.rest ≡ canonical_text (file_by names x)) (λ fault. fault.why ≡ Memory) }
     ensures judged { IfErr result (λ fault. IsJudged fault.why input.now fault.span) }
@@ -84,7 +85,7 @@ pub fn canonical_by(alloc: Global, input: &[u8], names: Names) -> Result<Vec<u8>
     ensures judged { IfErr result (λ fault. IsJudged fault.why input.now fault.span) }
     ensures placed { IfErr result (λ fault. IsPlaced fault.why input.now fault.span) }
 {
-    Ok(canonical_text(alloc, input, names)?.into_vec())
+    Ok(canonical_text(alloc, input, names)?.into_vec().unwrap())
 }
 
 /// The canonical text of a game file with all its names.

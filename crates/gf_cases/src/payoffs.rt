@@ -73,7 +73,10 @@ fn paid_at(
 
 /// Whether payoffs have these numerators and denominators.
 fn are_payoffs(payoffs: &[Fraction], parts: &[(i128, u128)]) -> bool {
-    payoffs.iter().map(|it| (it.num(), it.den())).eq(parts.iter().copied())
+    payoffs
+        .iter()
+        .map(|it| (it.num(), it.den()))
+        .eq(parts.iter().copied())
 }
 
 fn pays(alloc: Global, file: &[u8], choices: &[&[u32]], parts: Option<&[(i128, u128)]>) -> bool {

@@ -9,6 +9,7 @@ pub mod Meaning
 pub mod PayoffLists
 pub mod ReaderState
 pub mod TextParts
+pub mod TextRest
 pub mod Told
 pub mod ToldTable
 pub mod ToldText

@@ -19,7 +19,6 @@ pub use crate::listed::ListedTable;
 pub use crate::read::{check_nfg, list_nfg, read_nfg};
 pub use crate::table::Table;
 pub use crate::table::labels::Labels;
-pub use crate::text::canonical::canonical_nfg;
+pub use crate::text::canonical::{canonical_nfg, text_of};
 pub use crate::text::pieces::TextPieces;
-pub use crate::text::table_text::{TextAndPayoffs, text_of};
 pub use crate::text::write::write_nfg;

@@ -1,13 +1,13 @@
 //! The canonical text of a file, written while the file is read.
 
-ghost use Rattle.std.specs.Prelude.{◌≡◌, ◌++◌, [], OnOk};
+ghost use Rattle.std.specs.Prelude.{◌≡◌, ◌++◌, ◌∷◌, [], List, IfOk, OnOk};
+ghost use Rattle.gf_fraction.specs.Ratio.{Ratio};
 ghost use Rattle.gf_nfg.specs.inner.Meaning.{names_in};
 ghost use Rattle.gf_nfg.specs.inner.ReaderState.{HasCounts, content_in};
-ghost use Rattle.gf_nfg.specs.inner.TextParts.{heading_text, names_by};
+ghost use Rattle.gf_nfg.specs.inner.TextParts.{heading_text, names_by, payoffs_text};
 
 use crate::heading::Heading;
 use crate::receive::{Kept, Receive, Version};
-use crate::text::payoffs::write_payoff;
 use crate::text::write::write_heading;
 use gf_fraction::Fraction;
 use std::alloc::{AllocError, Global};
@@ -15,9 +15,8 @@ use std::alloc::{AllocError, Global};
 pub(crate) mod canonical;
 pub(crate) mod lines;
 pub(crate) mod lists;
-pub(crate) mod payoffs;
 pub(crate) mod pieces;
-pub(crate) mod table_text;
+pub(crate) mod rest;
 pub(crate) mod write;
 
 /// The text of a file that is being told.
@@ -64,6 +63,30 @@ fn write_told(heading: &Heading<'_>, named: bool, out: &mut Vec<u8>) -> Result<(
 {
     let names = heading.names(*out.allocator())?;
     write_heading(&names, named, out)
+}
+
+/// Appends a payoff, and a space or the line feed that ends its line. Lines have `width` payoffs,
+/// and this one lacks `left`. Returns how many are lacking then.
+#[tactic(auto, using(crate::proofs::lemmas::texts::PayoffLines::payoff_written))]
+#[inline(always)]
+fn write_payoff(
+    payoff: Fraction,
+    width: usize,
+    left: usize,
+    out: &mut Vec<u8>,
+) -> Result<usize, AllocError>
+    ensures { IfOk result (λ next. (more : List Ratio)
+        → out.new.items ++ payoffs_text width next more
+        ≡ out.old.items ++ payoffs_text width left (payoff ∷ more)) }
+{
+    payoff.write(out)?;
+    if left > 1 {
+        out.push(b' ')?;
+        Ok(left - 1)
+    } else {
+        out.push(b'\n')?;
+        Ok(width)
+    }
 }
 
 impl<'a> Receive<'a> for Text {

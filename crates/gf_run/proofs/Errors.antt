@@ -1,7 +1,7 @@
 -- What holds for the value or for the error of a result.
 use Rattle.std.proofs.Common.{◌≡◌, Result, Ok, Err, IfErr, IsErrAnd, MatchResult, OnErr, ap, sym, subst}
 use Rattle.std.specs.Prelude.{⊤}
-use Rattle.gf_run.specs.CollectionRun.{without_cause}
+use Rattle.gf_run.specs.Performs.{without_cause}
 use Rattle.gf_run.specs.declared.collections.rewrite.Failed.{Failed}
 use Rattle.gf_run.specs.declared.fault.RunFault.{RunFault}
 

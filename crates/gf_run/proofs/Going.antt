@@ -1,7 +1,8 @@
 -- While a run goes over files.
-use Rattle.std.proofs.Common.{◌≡◌, ℕ, List, ◌∷◌, ◌+◌, ◌<◌, ◌≤◌, drop, get_or, inl, inr, length, max, sym}
+use Rattle.std.proofs.Common.{◌≡◌, ℕ, List, ◌∷◌, ◌+◌, ◌<◌, ◌≤◌, drop, get_or, inl, inr, length}
+use Rattle.std.proofs.Common.{max, sym}
 use Rattle.std.proofs.lemmas.List.{drop_all, drop_more}
-use Rattle.gf_run.specs.CollectionRun.{GoesOver}
+use Rattle.gf_run.specs.Performs.{GoesOver}
 use Rattle.gf_run.specs.declared.collections.file.CollectionFile.{CollectionFile}
 
 -- what is left of a list: the item at a place, and then those after it

@@ -1,7 +1,7 @@
 -- How a file is put into the group of its hash.
-use Rattle.std.proofs.Common.{length, get_or, false, subst, arith, Bool, true, cond, List}
-use Rattle.std.proofs.Common.{◌++◌, refl, ◌≡◌, suc, ◌+◌, ◌<◌, ◌≤◌, ◌∷◌, map, set, sym, ◌∙◌, []}
-use Rattle.std.proofs.Common.{inl, inr, ap, ℕ}
+use Rattle.std.proofs.Common.{length, get_or, false, subst, arith, Bool, true, cond, List, ◌++◌}
+use Rattle.std.proofs.Common.{refl, ◌≡◌, suc, ◌+◌, ◌<◌, ◌≤◌, ◌∷◌, map, set, sym, ◌∙◌, [], inl, inr}
+use Rattle.std.proofs.Common.{ap, ℕ}
 use Rattle.std.proofs.lemmas.Bool.{both_ways}
 use Rattle.std.proofs.lemmas.Bool.Decides.{Decides-eqb}
 use Rattle.std.proofs.lemmas.List.{append-nil, get_or-map, length-map, map-append, map-set}
@@ -11,7 +11,8 @@ use Rattle.std.specs.List.{list_any, position_or_len}
 use Rattle.std.specs.Prelude.{◌⊎◌}
 use Rattle.gf_tree.specs.FiniteMap.{first_uses}
 use Rattle.gf_tree.proofs.Offered.{AreDistinct, Has, IsEquality, first_uses_distinct, is_used}
-use Rattle.gf_tree.proofs.Offered.{known_more, map_same, map_twice, more_known, used_before, was_used}
+use Rattle.gf_tree.proofs.Offered.{known_more, map_same, map_twice, more_known, used_before}
+use Rattle.gf_tree.proofs.Offered.{was_used}
 use Rattle.indexmap.specs.IndexSet.{insert_key}
 use Rattle.gf_run.specs.Duplicates.{HashedFile, IsKeptOf, KeptNames, hashes_of, having, names_of}
 use Rattle.gf_run.specs.Duplicates.{same_hash}

@@ -1,13 +1,13 @@
 -- The text of groups, while groups are visited.
-use Rattle.std.proofs.Common.{◌≡◌, ◌∙◌, ◌++◌, ◌∷◌, [], ◌+◌, ◌<◌, ◌≤◌, ℕ, Bool, true, false, List, ap}
-use Rattle.std.proofs.Common.{append_assoc, arith, drop, filter, get_or, length, map, not, sym}
+use Rattle.std.proofs.Common.{◌≡◌, ◌∙◌, ◌++◌, ◌∷◌, [], ◌+◌, ◌<◌, ◌≤◌, ℕ, Bool, true, false, List}
+use Rattle.std.proofs.Common.{ap, append_assoc, arith, drop, filter, get_or, length, map, not, sym}
 use Rattle.std.specs.Prelude.{if◌then◌else◌}
 use Rattle.std.proofs.lemmas.Bool.{le-ltb, lt-ltb}
 use Rattle.std.proofs.lemmas.List.{append-nil, drop_all, get_or-map, length-map}
 use Rattle.std.specs.List.{flat_map, list_any}
 use Rattle.gf_words.specs.declared.job.LineEnd.{LineEnd}
 use Rattle.gf_run.specs.Duplicates.{groups_text, has_two, name_lines}
-use Rattle.gf_run.specs.NameText.{end_text}
+use Rattle.gf_run.specs.LineText.{end_text}
 use Rattle.gf_run.proofs.Going.{left_at}
 
 -- the text of these groups, if they are the first ones, and if they come after others

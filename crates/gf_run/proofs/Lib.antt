@@ -1,10 +1,8 @@
+pub mod Asked
 pub mod Errors
 pub mod Going
 pub mod Grouped
 pub mod GroupsText
-pub mod Interruptions
 pub mod MapLines
-pub mod MoreWritten
 pub mod Reported
-pub mod WeakerRequests
 pub mod Written

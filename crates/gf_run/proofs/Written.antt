@@ -1,11 +1,11 @@
 -- How the text of an answer is written.
 use Rattle.std.proofs.Common.{◌≡◌, ℕ, List, Result, Ok, Err, MatchResult}
 use Rattle.gf_run.specs.Run.{Writes, answered, cut_off, refused}
-use Rattle.gf_run.specs.Streams.{Writer}
+use Rattle.gf_run.specs.Streams.{Stream}
 use Rattle.gf_run.specs.declared.fault.RunFault.{RunFault}
 use Rattle.gf_run.specs.declared.texts.answer.Answer.{Answer}
 
-module _ {A W : Type 0} (writer : Writer W) (Answers : A → List ℕ → Type 0)
+module _ {A W : Type 0} (writer : Stream W) (Answers : A → List ℕ → Type 0)
     (Refuses : RunFault → Type 0) (result : Result A RunFault) (o o' : W) where
   of_answer : (answer : Answer A) → Answers answer.value answer.text.rest
       → Writes writer (λ value text. (value ≡ answer.value) × (text ≡ answer.text.rest)) (λ fault. ⊥)

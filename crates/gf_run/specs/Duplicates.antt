@@ -4,7 +4,7 @@ use Rattle.std.specs.Cmp.Lexicographic.{pointwise}
 use Rattle.std.specs.List.{Contains, filter, flat_map, join_by, list_any}
 use Rattle.gf_tree.specs.FiniteMap.{first_uses}
 use Rattle.gf_words.specs.declared.job.LineEnd.{LineEnd}
-use Rattle.gf_run.specs.NameText.{end_text, name_line}
+use Rattle.gf_run.specs.LineText.{end_text, name_line}
 
 -- a file that was read: its name, and the hash of its canonical text
 pub record HashedFile : Type 0 where

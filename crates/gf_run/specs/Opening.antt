@@ -4,9 +4,7 @@ use Rattle.std.specs.Str.{bytes_eq}
 use Rattle.std.specs.String.{string_bytes}
 use Rattle.std.specs.declared.io.Error.{Error}
 use Rattle.gf_words.specs.declared.job.Input.{Input}
-use Rattle.gf_words.specs.declared.job.Input.TheVariants.{Standard, File}
 use Rattle.gf_run.specs.declared.collections.file.CollectionFile.{CollectionFile}
-use Rattle.gf_run.specs.declared.collections.file.CollectionFile.TheVariants as file
 use Rattle.gf_run.specs.declared.opening.inputs.Unreplaced.{Unreplaced}
 
 -- what opens inputs, and puts texts in the place of files: each holds for its state, what it gives,
@@ -19,24 +17,24 @@ pub record Opener (I S : Type 0) : Type 1 where
 module _ {I S : Type 0} (opener : Opener I S) where
   -- an input was opened
   abbrev pub IsOpened : Input → I → S → I → Type 0
-  IsOpened Standard i s i' = opener.standard i s i'
-  IsOpened (File name) i s i' = opener.file i (string_bytes name) (Ok s) i'
+  IsOpened Input.Standard i s i' = opener.standard i s i'
+  IsOpened (Input.File name) i s i' = opener.file i (string_bytes name) (Ok s) i'
 
   -- an input could not be opened
   abbrev pub IsNotOpened : Input → I → I → Type 0
-  IsNotOpened Standard i i' = ⊥
-  IsNotOpened (File name) i i' =
+  IsNotOpened Input.Standard i i' = ⊥
+  IsNotOpened (Input.File name) i i' =
       (error : Error) × opener.file i (string_bytes name) (Err error) i'
 
   -- a file of a collection was opened
   abbrev pub IsFileOpened : CollectionFile → I → S → I → Type 0
-  IsFileOpened (file.Input input) i s i' = IsOpened input i s i'
-  IsFileOpened (file.NotText name) i s i' = ⊥
+  IsFileOpened (CollectionFile.Input input) i s i' = IsOpened input i s i'
+  IsFileOpened (CollectionFile.NotText name) i s i' = ⊥
 
   -- it could not be opened
   abbrev pub IsFileNotOpened : CollectionFile → I → I → Type 0
-  IsFileNotOpened (file.Input input) i i' = IsNotOpened input i i'
-  IsFileNotOpened (file.NotText name) i i' = i' ≡ i
+  IsFileNotOpened (CollectionFile.Input input) i i' = IsNotOpened input i i'
+  IsFileNotOpened (CollectionFile.NotText name) i i' = i' ≡ i
 
   -- what opening a name gives, by whether it is that of standard input
   abbrev pub OpensBy : Bool → List ℕ → I → Result S Error → I → Type 0

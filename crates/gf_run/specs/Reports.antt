@@ -2,30 +2,30 @@
 use Rattle.std.specs.Prelude.{◌≡◌, ◌⊎◌, ℕ, List, ◌++◌, codes, Option, Some, None, Result, Ok, Err}
 use Rattle.std.specs.String.{string_bytes}
 use Rattle.gf_words.specs.declared.fault.WordsFault.{WordsFault}
-use Rattle.gf_words.specs.declared.fault.WordsFault.TheVariants as words
 use Rattle.gf_words.specs.declared.job.Input.{Input}
-use Rattle.gf_words.specs.declared.job.Input.TheVariants as input
 use Rattle.gf_explain.specs.Explained as refusal
 use Rattle.gf_explain.specs.Explained.{IsSaidAfter}
 use Rattle.gf_explain.specs.Shown.{shown_name}
 use Rattle.gf_run.specs.Faults.{fault_line, short_line, status_of}
-use Rattle.gf_run.specs.Output.{IsWriteFault, IsWritten}
-use Rattle.gf_run.specs.Streams.{Writer}
+use Rattle.gf_run.specs.Transfers.{IsWriteFault, IsWritten}
+use Rattle.gf_run.specs.Streams.{Stream}
 use Rattle.gf_run.specs.declared.collections.file.CollectionFile.{CollectionFile}
-use Rattle.gf_run.specs.declared.collections.file.CollectionFile.TheVariants as file
 use Rattle.gf_run.specs.declared.fault.RunFault.{RunFault}
-use Rattle.gf_run.specs.declared.fault.RunFault.TheVariants.{Memory, Refused, Write}
 
 -- what an input is called in an explanation
 abbrev pub called_input : Input → List ℕ
-called_input input.Standard = codes "<stdin>"
-called_input (input.File name) = string_bytes name
+called_input Input.Standard = codes "<stdin>"
+called_input (Input.File name) = string_bytes name
+
+-- the word that names an input; `-` is standard input
+abbrev pub word_of : Input → List ℕ
+word_of Input.Standard = codes "-"
+word_of (Input.File name) = string_bytes name
 
 -- what one of several files is called
 abbrev pub name_of : CollectionFile → List ℕ
-name_of (file.Input input.Standard) = codes "-"
-name_of (file.Input (input.File name)) = string_bytes name
-name_of (file.NotText name) = string_bytes name
+name_of (CollectionFile.Input input) = word_of input
+name_of (CollectionFile.NotText name) = string_bytes name
 
 -- a text after the name of its file, as it is shown
 abbrev pub after_name : List ℕ → List ℕ → List ℕ
@@ -34,31 +34,24 @@ after_name name text = shown_name name ++ codes ": " ++ text
 -- an explanation of a fault of the file with this name and these bytes: that of the refusal; or else
 -- the line of the fault, and after it what is shown
 abbrev pub IsExplained : RunFault → List ℕ → List ℕ → List ℕ → Type 0
-IsExplained (Refused which fault) name bytes text = refusal.IsExplained fault name bytes text
+IsExplained (RunFault.Refused which fault) name bytes text = refusal.IsExplained fault name bytes text
 IsExplained fault name bytes text = IsSaidAfter (short_line fault) text
 
 -- one that begins with the name of its file, also if it names no place
 abbrev pub IsNamedExplanation : RunFault → List ℕ → List ℕ → List ℕ → Type 0
-IsNamedExplanation (Refused which fault) name bytes text =
-    IsExplained (Refused which fault) name bytes text
+IsNamedExplanation (RunFault.Refused which fault) name bytes text =
+    refusal.IsExplained fault name bytes text
 IsNamedExplanation fault name bytes text =
     (said : List ℕ) × IsExplained fault name bytes said × (text ≡ after_name name said)
 
--- what is written about a fault of the file with this name: an explanation, by the bytes of it that
--- were kept; or its line, if none were, or memory for the explanation ran out
-abbrev pub IsToldBy : RunFault → List ℕ → Option (List ℕ) → List ℕ → Type 0
-IsToldBy fault name None text = text ≡ fault_line fault
-IsToldBy fault name (Some bytes) text =
-    (text ≡ fault_line fault) ⊎ IsExplained fault name bytes text
-
--- the same of one of several files: also the line comes after the name
-abbrev pub IsNamedText : RunFault → List ℕ → Option (List ℕ) → List ℕ → Type 0
-IsNamedText fault name None text = text ≡ after_name name (fault_line fault)
-IsNamedText fault name (Some bytes) text =
-    (text ≡ after_name name (fault_line fault)) ⊎ IsNamedExplanation fault name bytes text
+-- what is written by the bytes of a file that were kept: what explains them; or a line, if none were,
+-- or memory for the explanation ran out
+abbrev pub IsLineOr : List ℕ → (List ℕ → List ℕ → Type 0) → Option (List ℕ) → List ℕ → Type 0
+IsLineOr line Explains None text = text ≡ line
+IsLineOr line Explains (Some bytes) text = (text ≡ line) ⊎ Explains bytes text
 
 -- for standard error
-module _ {E : Type 0} (writer : Writer E) where
+module _ {E : Type 0} (writer : Stream E) where
   -- a text was written whole; or a prefix of it, and then the writer failed
   abbrev pub IsTold : List ℕ → E → E → Type 0
   IsTold text old new = IsWritten writer old new text ⊎ IsWriteFault writer old new text
@@ -66,13 +59,15 @@ module _ {E : Type 0} (writer : Writer E) where
   -- a fault of the file with this name was reported, and this is its status
   abbrev pub IsReported : List ℕ → Option (List ℕ) → RunFault → ℕ → E → E → Type 0
   IsReported name kept fault status old new = (status ≡ status_of fault)
-      × ((text : List ℕ) × IsToldBy fault name kept text × IsTold text old new)
+      × ((text : List ℕ) × IsLineOr (fault_line fault) (IsExplained fault name) kept text
+      × IsTold text old new)
 
-  -- the same of one of several files; or memory for the text ran out
+  -- the same of one of several files, always after its name; or memory for the text ran out
   abbrev pub IsToldOf : List ℕ → Option (List ℕ) → RunFault → ℕ → E → E → Type 0
-  IsToldOf name kept fault status old new = ((status ≡ status_of fault)
-      × ((text : List ℕ) × IsNamedText fault name kept text × IsTold text old new))
-      ⊎ ((status ≡ status_of Memory) × IsTold (fault_line Memory) old new)
+  IsToldOf name kept fault status old new = ((status ≡ status_of fault) × ((text : List ℕ)
+      × IsLineOr (after_name name (fault_line fault)) (IsNamedExplanation fault name) kept text
+      × IsTold text old new))
+      ⊎ ((status ≡ status_of RunFault.Memory) × IsTold (fault_line RunFault.Memory) old new)
 
 -- How a run ends by its result: with the status of its answer, and nothing is reported; or with
 -- that of its fault, of which `Tells` says how it is reported.
@@ -83,15 +78,15 @@ Ends Tells status_of_answer (Ok answer) kept status old new =
 Ends Tells status_of_answer (Err fault) kept status old new = Tells kept fault status old new
 
 -- for standard output and for standard error
-module _ {W E : Type 0} (writer : Writer W) (errors : Writer E) where
+module _ {W E : Type 0} (writer : Stream W) (errors : Stream E) where
   -- Words that ask for no job are answered with this status: help is written to standard output;
   -- for wrong usage, and if memory ran out, a text is written to standard error only.
   abbrev pub IsAnswered : WordsFault → ℕ → W → W → E → E → Type 0
-  IsAnswered (words.Help text) status o o' e e' =
+  IsAnswered (WordsFault.Help text) status o o' e e' =
       ((status ≡ 0) × (e' ≡ e) × IsWritten writer o o' (string_bytes text))
-      ⊎ ((status ≡ 4) × IsTold errors (fault_line Write) e e'
+      ⊎ ((status ≡ 4) × IsTold errors (fault_line RunFault.Write) e e'
       × IsWriteFault writer o o' (string_bytes text))
-  IsAnswered (words.Usage text) status o o' e e' =
+  IsAnswered (WordsFault.Usage text) status o o' e e' =
       (status ≡ 3) × (o' ≡ o) × IsTold errors (string_bytes text) e e'
-  IsAnswered words.Memory status o o' e e' =
-      (status ≡ 5) × (o' ≡ o) × IsTold errors (fault_line Memory) e e'
+  IsAnswered WordsFault.Memory status o o' e e' =
+      (status ≡ 5) × (o' ≡ o) × IsTold errors (fault_line RunFault.Memory) e e'

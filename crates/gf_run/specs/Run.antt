@@ -5,19 +5,15 @@ use Rattle.gf_canon.specs.NamesAside.{IsTextBy}
 use Rattle.gf_canon.specs.SameBy.{SameBy}
 use Rattle.gf_canon.specs.declared.kind.FileKind.{FileKind}
 use Rattle.gf_canon.specs.declared.sameness.Names.{Names}
-use Rattle.gf_canon.specs.declared.sameness.Names.TheVariants as names
 use Rattle.gf_form.specs.declared.forms.Strategies.{Strategies}
-use Rattle.gf_run.specs.FormText.{IsFormText}
-use Rattle.gf_run.specs.Input.{IsNotRead, IsReadWhole}
+use Rattle.gf_run.specs.FormText.{IsFaultOfBytes, IsFaultOfFile, IsFaultOfFiles, IsFormText, IsRefusal}
+use Rattle.gf_run.specs.Transfers.{IsNotRead, IsReadWhole, IsWriteFault, IsWritten}
 use Rattle.gf_run.specs.LineText.{IsHashOf, IsKindLine, IsLineOf}
-use Rattle.gf_run.specs.NoAnswer.{IsFaultOfBytes, IsFaultOfFile, IsFaultOfFiles, IsRefusal}
-use Rattle.gf_run.specs.Output.{IsWriteFault, IsWritten}
 use Rattle.gf_run.specs.SameText.{IsAnswer, IsLine, IsLineAndMap}
-use Rattle.gf_run.specs.Streams.{Reader, Writer}
+use Rattle.gf_run.specs.Streams.{Stream}
 use Rattle.gf_run.specs.declared.collections.line.FileLine.{FileLine}
 use Rattle.gf_run.specs.declared.fault.RunFault.{RunFault}
-use Rattle.gf_run.specs.declared.fault.RunFault.TheVariants.{Write}
-use Rattle.gf_run.specs.declared.fault.Which.TheVariants.{Only, First, Second}
+use Rattle.gf_run.specs.declared.fault.Which.{Which}
 
 -- For an input, or for two: `IsRead` says that it was read whole, and that these are its bytes, and
 -- `IsUnread` that it was not, and why.
@@ -31,14 +27,14 @@ module _ {X B A : Type 0} (IsRead : X → X → B → Type 0) (IsUnread : RunFau
         → Reads result x x'
 
 -- `Answers` says which texts are the answer, and `Refuses` why there is none.
-module _ {A W : Type 0} (writer : Writer W) (Answers : A → List ℕ → Type 0)
+module _ {A W : Type 0} (writer : Stream W) (Answers : A → List ℕ → Type 0)
     (Refuses : RunFault → Type 0) where
   pub data Writes (result : Result A RunFault) (o o' : W) : Type 0 where
     -- the text was written
     answered : (answer : A) (text : List ℕ) → result ≡ Ok answer → Answers answer text
         → IsWritten writer o o' text → Writes result o o'
     -- a prefix of it was written, and then the writer failed
-    cut_off : (answer : A) (text : List ℕ) → result ≡ Err Write → Answers answer text
+    cut_off : (answer : A) (text : List ℕ) → result ≡ Err RunFault.Write → Answers answer text
         → IsWriteFault writer o o' text → Writes result o o'
     -- there is none, and nothing was asked of the output
     refused : (fault : RunFault) → result ≡ Err fault → Refuses fault → o' ≡ o
@@ -47,14 +43,14 @@ module _ {A W : Type 0} (writer : Writer W) (Answers : A → List ℕ → Type 0
 -- ---- over one input
 
 -- its canonical text is hashed
-abbrev pub ReadsHash : {R : Type 0} → Reader R → Names → Result (List ℕ) RunFault → R → R → Type 0
-ReadsHash reader names = Reads (IsReadWhole reader) (IsNotRead reader Only)
+abbrev pub ReadsHash : {R : Type 0} → Stream R → Names → Result (List ℕ) RunFault → R → R → Type 0
+ReadsHash reader names = Reads (IsReadWhole reader) (IsNotRead reader Which.Only)
     (λ bytes result. MatchResult result (IsHashOf names bytes) (IsFaultOfFile bytes)) (Unit {0})
 
-module _ {R W : Type 0} (reader : Reader R) (writer : Writer W) where
+module _ {R W : Type 0} (reader : Stream R) (writer : Stream W) where
   abbrev pub Runs : {A : Type 0} → (A → List ℕ → List ℕ → Type 0) → (List ℕ → RunFault → Type 0)
       → Result A RunFault → R → R → W → W → Type 0
-  Runs Answers Refuses result i i' o o' = Reads (IsReadWhole reader) (IsNotRead reader Only)
+  Runs Answers Refuses result i i' o o' = Reads (IsReadWhole reader) (IsNotRead reader Which.Only)
       (λ bytes result. Writes writer (λ answer. Answers answer bytes) (Refuses bytes) result o o')
       (o' ≡ o) result i i'
 
@@ -81,7 +77,7 @@ abbrev pub IsAnswerBy : Bool → Names → Bool → List ℕ → List ℕ → Li
 IsAnswerBy true names = IsAnswer SameFile IsLineAndMap
 IsAnswerBy false names = IsAnswer (SameBy names) IsLine
 
-module _ {R S W : Type 0} (first : Reader R) (second : Reader S) (writer : Writer W) where
+module _ {R S W : Type 0} (first : Stream R) (second : Stream S) (writer : Stream W) where
   -- both were read whole
   abbrev pub AreReadWhole : R × S → R × S → List ℕ × List ℕ → Type 0
   AreReadWhole old new bytes =
@@ -89,23 +85,11 @@ module _ {R S W : Type 0} (first : Reader R) (second : Reader S) (writer : Write
 
   -- the first was not, and nothing was asked of the second; or only the first was
   abbrev pub AreNotRead : RunFault → R × S → R × S → Type 0
-  AreNotRead fault old new = (IsNotRead first First fault old.0 new.0 × (new.1 ≡ old.1))
+  AreNotRead fault old new = (IsNotRead first Which.First fault old.0 new.0 × (new.1 ≡ old.1))
       ⊎ ((bytes : List ℕ) × IsReadWhole first old.0 new.0 bytes
-      × IsNotRead second Second fault old.1 new.1)
+      × IsNotRead second Which.Second fault old.1 new.1)
 
   abbrev pub RunsTwo : Bool → Names → Result Bool RunFault → R → R → S → S → W → W → Type 0
   RunsTwo map names result a a' b b' o o' = Reads AreReadWhole AreNotRead
       (λ bytes result. Writes writer (λ same. IsAnswerBy map names same bytes.0 bytes.1)
       (IsFaultOfFiles bytes.0 bytes.1) result o o') (o' ≡ o) result (a, b) (a', b')
-
-  -- `run_same`
-  abbrev pub RunsSame : Result Bool RunFault → R → R → S → S → W → W → Type 0
-  RunsSame = RunsTwo false names.Kept
-
-  -- `run_same_by`
-  abbrev pub RunsSameBy : Names → Result Bool RunFault → R → R → S → S → W → W → Type 0
-  RunsSameBy = RunsTwo false
-
-  -- `run_same_map`
-  abbrev pub RunsSameMap : Result Bool RunFault → R → R → S → S → W → W → Type 0
-  RunsSameMap = RunsTwo true names.Kept

@@ -1,18 +1,86 @@
--- What a reader and a writer show of themselves.
-use Rattle.std.specs.Prelude.{ℕ, List, Option, Result}
+-- What a reader or a writer shows of itself, and what it was asked and answered, request by request.
+use Rattle.std.specs.Prelude.{◌≡◌, ◌≢◌, ◌⊎◌, ℕ, ◌+◌, ◌-◌, ◌^◌, ◌<◌, ◌≤◌, min, max, zero, suc, List}
+use Rattle.std.specs.Prelude.{[], ◌++◌, length, take, Option, Some, Result, Ok, Err, MatchResult}
+use Rattle.std.specs.IoError.{error_kind}
 use Rattle.std.specs.declared.io.Error.{Error}
+use Rattle.std.specs.declared.io.ErrorKind.{ErrorKind}
 
--- of a reader: the bytes that it has left, if it reports them; its count of failures; and what a
--- pull gives: this holds for its state, the buffer as the pull leaves it, the answer, and the state
--- after it
-pub record Reader (S : Type 0) : Type 1 where
-  pub remaining : S → Option (List ℕ)
+-- of a reader or a writer: the bytes that a reader has left or a writer holds, if it reports them;
+-- its count of failures; and what a request gives: `gives old bytes answer new` holds if a request
+-- with these bytes may have this answer at `old`, and leads to `new`. The bytes of a pull are its
+-- buffer as the pull leaves it, and those of a push are what it offers.
+pub record Stream (S : Type 0) : Type 1 where
+  pub known : S → Option (List ℕ)
   pub count : S → ℕ
   pub gives : S → List ℕ → Result ℕ Error → S → Type 0
 
--- of a writer: the bytes that it holds, if it reports them; its count of failures; and what a push
--- gives: this holds for its state, the bytes that are offered, the answer, and the state after it
-pub record Writer (S : Type 0) : Type 1 where
-  pub contents : S → Option (List ℕ)
-  pub count : S → ℕ
-  pub gives : S → List ℕ → Result ℕ Error → S → Type 0
+-- ---- failures
+
+-- one more failure; a count at its greatest value stays there
+abbrev pub next_count : ℕ → ℕ
+next_count n = max n (min (n + 1) (2 ^ 64 - 1))
+
+-- the count after a pull's answer: an error is a failure
+abbrev pub CountsPull : ℕ → Result ℕ Error → ℕ → Type 0
+CountsPull old answer new = MatchResult answer (λ _. new ≡ old) (λ _. new ≡ next_count old)
+
+-- the count after a push's answer: an error is a failure, and so is taking nothing
+abbrev pub CountsPush : ℕ → Result ℕ Error → ℕ → Type 0
+CountsPush old answer new = MatchResult answer
+    (λ n. (0 < n → new ≡ old) × (n ≡ 0 → new ≡ next_count old)) (λ _. new ≡ next_count old)
+
+-- the count rose, or it was at its greatest value
+pub record HasRisen (old new : ℕ) : Type 0 where
+  pub risen : next_count old ≤ new
+
+-- the last error after an answer
+abbrev pub KeepsLast : Option Error → Result ℕ Error → Option Error → Type 0
+KeepsLast old answer new = MatchResult answer (λ _. new ≡ old) (λ error. new ≡ Some error)
+
+-- ---- turns
+
+module _ {S : Type 0} (gives : S → List ℕ → Result ℕ Error → S → Type 0) where
+  -- a request was answered with such an error, and P held for its bytes
+  pub record IsError (P : List ℕ → Type 0) (Kind : ErrorKind → Type 0) (old new : S) : Type 0 where
+    pub bytes : List ℕ
+    pub asked : P bytes
+    pub error : Error
+    pub given : gives old bytes (Err error) new
+    pub kind : Kind (error_kind error)
+
+  -- a request was interrupted
+  abbrev pub IsInterrupted : (List ℕ → Type 0) → S → S → Type 0
+  IsInterrupted P = IsError P (λ kind. kind ≡ ErrorKind.Interrupted)
+
+  -- n requests in a row were interrupted
+  unfoldable pub Interruptions : (List ℕ → Type 0) → ℕ → S → S → Type 0
+  Interruptions P zero old new = new ≡ old
+  Interruptions P (suc n) old new = (mid : S) × Interruptions P n old mid × IsInterrupted P mid new
+
+  -- a turn: fewer than sixteen interruptions in a row, and then such an answer
+  pub record IsTurn (P : List ℕ → Type 0) (answer : S → S → Type 0) (old new : S) : Type 0 where
+    pub mid : S
+    pub interruptions : ℕ
+    pub fewer : interruptions < 16
+    pub before : Interruptions P interruptions old mid
+    pub last : answer mid new
+
+  -- a turn moved the first n of these bytes
+  pub record Moves (P : List ℕ → Type 0) (bytes : List ℕ) (n : ℕ) (old new : S) : Type 0 where
+    pub asked : P bytes
+    pub within : n ≤ length bytes
+    pub turn : IsTurn P (λ mid last. gives mid bytes (Ok n) last) old new
+
+  -- a turn failed, but not by an interruption; or sixteen requests in a row were interrupted
+  abbrev pub GivesUp : (List ℕ → Type 0) → S → S → Type 0
+  GivesUp P old new = IsTurn P (IsError P (λ kind. kind ≢ ErrorKind.Interrupted)) old new
+      ⊎ Interruptions P 16 old new
+
+  -- one turn after another moved these bytes, each at least one of them. `Asks moved request` says
+  -- what a turn asks after `moved`, and `Has request` which bytes each request of the turn has.
+  pub data Transfers {X : Type 0} (Has : X → List ℕ → Type 0) (Asks : List ℕ → X → Type 0)
+      : List ℕ → S → S → Type 0 where
+    none : (s : S) → Transfers Has Asks [] s s
+    more : (moved : List ℕ) (request : X) (bytes : List ℕ) (n : ℕ) (old mid new : S)
+        → Transfers Has Asks moved old mid → Asks moved request → 0 < n
+        → Moves (Has request) bytes n mid new → Transfers Has Asks (moved ++ take n bytes) old new

@@ -2,8 +2,7 @@
 
 ghost use Rattle.std.specs.Prelude.{◌≡◌};
 ghost use Rattle.gf_run.specs.Faults.{answer_status, fault_of, form_fault, is_of_second, status_of};
-ghost use Rattle.gf_run.specs.declared.fault.RunFault.TheVariants.{Memory, Refused, Write};
-ghost use Rattle.gf_run.specs.declared.fault.Which.TheVariants.{Only};
+ghost use Rattle.gf_run.specs.declared.fault.RunFault.{RunFault};
 
 use gf_canon::SameFault;
 use gf_form::FormFault;
@@ -43,7 +42,7 @@ pub enum RunFault {
 }
 
 impl From<AllocError> for RunFault {
-    ghost from_gives = { λ _ fault. fault ≡ Memory };
+    ghost from_gives = { λ _ fault. fault ≡ RunFault.Memory };
 
     fn from(_: AllocError) -> RunFault {
         RunFault::Memory
@@ -55,14 +54,8 @@ impl From<SameFault> for RunFault {
 
     fn from(same: SameFault) -> RunFault {
         match same {
-            SameFault::First(fault) => RunFault::Refused {
-                which: Which::First,
-                fault,
-            },
-            SameFault::Second(fault) => RunFault::Refused {
-                which: Which::Second,
-                fault,
-            },
+            SameFault::First(fault) => refusal(Which::First, fault),
+            SameFault::Second(fault) => refusal(Which::Second, fault),
             SameFault::Memory => RunFault::Memory,
         }
     }
@@ -85,21 +78,25 @@ impl From<FormFault> for RunFault {
 pub struct WriteFault;
 
 impl From<WriteFault> for RunFault {
-    ghost from_gives = { λ _ fault. fault ≡ Write };
+    ghost from_gives = { λ _ fault. fault ≡ RunFault.Write };
 
     fn from(_: WriteFault) -> RunFault {
         RunFault::Write
     }
 }
 
+/// The refusal of an input.
+pub(crate) fn refusal(which: Which, fault: Fault) -> RunFault
+    ensures { result ≡ RunFault.Refused which fault }
+{
+    RunFault::Refused { which, fault }
+}
+
 /// The refusal of the one input of a run.
 pub(crate) fn refused(fault: Fault) -> RunFault
-    ensures { result ≡ Refused Only fault }
+    ensures { result ≡ RunFault.Refused Which.Only fault }
 {
-    RunFault::Refused {
-        which: Which::Only,
-        fault,
-    }
+    refusal(Which::Only, fault)
 }
 
 /// The exit status of a fault: 2 for a refusal, and for a game that has no table; 4 if a reader or

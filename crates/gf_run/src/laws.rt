@@ -3,8 +3,8 @@
 ghost use Rattle.std.specs.Prelude.{◌≡◌, ◌↔◌, ◌⊎◌, ℕ, List, [], None, Some};
 ghost use Rattle.std.specs.List.{Contains};
 ghost use Rattle.gf_run.specs.Duplicates.{AreInOneGroup, HashedFile};
-ghost use Rattle.gf_run.specs.Input.{IsReadWhole};
-ghost use Rattle.gf_run.specs.Kept.{bytes_kept, kept_reader};
+ghost use Rattle.gf_run.specs.Transfers.{IsReadWhole};
+ghost use Rattle.gf_run.specs.Wrapped.{bytes_kept, kept_reader};
 ghost use Rattle.gf_run.specs.declared.streams.kept.Kept.{Kept};
 
 use crate::streams::source::Source;

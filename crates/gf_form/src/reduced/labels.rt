@@ -12,7 +12,8 @@ ghost use Rattle.gf_form.specs.inner.reduced.Firsts.{AreFirstsOf};
 ghost use Rattle.gf_form.specs.inner.reduced.OwnDigits.{digits_from};
 ghost use Rattle.gf_form.specs.inner.reduced.Relevance.{FindRelevance};
 ghost use Rattle.gf_form.specs.inner.reduced.Rows.{AreGiven, AreTold};
-ghost use Rattle.gf_form.specs.inner.reduced.Rows.{ChooseInTurn, HasRow, IsPlain};
+ghost use Rattle.gf_form.specs.inner.reduced.Rows.{HasRow, IsPlain};
+ghost use Rattle.gf_form.specs.inner.reduced.Search.{ChooseInTurn};
 ghost use Rattle.gf_form.specs.declared.reduced.labels.Found.{Found};
 
 use crate::reduced::digits::OwnDigit;

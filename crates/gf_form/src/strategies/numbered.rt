@@ -34,7 +34,8 @@ pub(crate) fn write_strategy(
 }
 
 /// No labels, and room for this many, each with a choice at this many sets. A choice takes at least
-/// a byte, and there is a dash between any two.
+/// a byte, and there is a dash between any two: labels that memory cannot hold are refused before
+/// the first one is made, and not after memory is full.
 pub(crate) fn room_for_choices(
     alloc: Global,
     count: usize,

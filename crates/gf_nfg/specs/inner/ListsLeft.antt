@@ -1,5 +1,5 @@
 -- Lists of labels in braces, which are written in several parts.
-use Rattle.std.specs.Prelude.{ℕ, ◌+◌, ◌<◌, ◌≤◌, Bool, List, [], ◌∷◌, ◌++◌, map, codes, drop, false}
+use Rattle.std.specs.Prelude.{ℕ, Bool, List, [], ◌∷◌, ◌++◌, map, codes, drop, false}
 use Rattle.std.specs.Prelude.{if◌then◌else◌, length}
 use Rattle.std.specs.List.{sum_by}
 use Rattle.gf_nfg.specs.TableText.{quoted}
@@ -23,11 +23,3 @@ lists_left lists w = lists_text w.opened w.labels (drop w.lists lists)
 -- how many bytes the labels have, all together
 abbrev pub size_of : List (List (List ℕ)) → ℕ
 size_of lists = sum_by (λ own. sum_by length own) lists
-
--- there is room for a piece of 65,536 bytes and what may come after: a label of these lists with
--- its quotes and a space, the ending, or a payoff with the byte after it
-pub record HasPieceRoom (lists : List (List (List ℕ))) (ending payoffs : List ℕ) (capacity : ℕ)
-    : Type 0 where
-  pub for_labels : 0 < length lists → 65536 + (size_of lists + 3) ≤ capacity
-  pub for_ending : 0 < length ending → 65536 + length ending ≤ capacity
-  pub for_payoffs : 0 < length payoffs → 65617 ≤ capacity

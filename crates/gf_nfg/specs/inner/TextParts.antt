@@ -1,7 +1,7 @@
 -- The pieces of a canonical text, for the functions that append them.
-use Rattle.std.specs.Prelude.{ℕ, ◌+◌, ◌-◌, ◌<◌, ◌≤◌, Bool, List, length, [], ◌∷◌, ◌++◌, map}
+use Rattle.std.specs.Prelude.{ℕ, ◌-◌, Bool, List, [], ◌∷◌, ◌++◌, map}
 use Rattle.std.specs.Prelude.{codes, drop, get_or, if◌then◌else◌, nat_lt}
-use Rattle.std.specs.List.{AllByRecursion, flat_map}
+use Rattle.std.specs.List.{flat_map}
 use Rattle.gf_fraction.specs.Ratio.{Ratio}
 use Rattle.gf_fraction.specs.NumberText.{number_text}
 use Rattle.gf_nfg.specs.TableParts.{Names}
@@ -21,6 +21,10 @@ row_text row = spaced (map number_text row)
 -- and their line
 abbrev pub line_text : List Ratio → List ℕ
 line_text row = row_text row ++ 10 ∷ []
+
+-- the lines of the rows still to come
+abbrev pub lines_rest : List (List Ratio) → ℕ → List ℕ
+lines_rest rs at = lines_text (map row_text (drop at rs))
 
 -- Payoffs in lines of so many, of which the first one lacks so many. A space or a line feed stands
 -- after each.
@@ -55,11 +59,3 @@ heading_text names = lines_text
 -- the lines with these numbers, from 0, one after another
 abbrev pub lines_with : List (List ℕ) → List ℕ → List ℕ
 lines_with lines numbers = flat_map (λ number. get_or lines number []) numbers
-
--- each number is that of a line, and so many of them are given; there is room for this many bytes
--- and the lines that are left
-pub record HasRoom (lines : List (List ℕ)) (numbers : List ℕ) (given bytes capacity : ℕ) : Type 0
-  where
-    pub below : AllByRecursion (λ number. number < length lines) numbers
-    pub given_within : given ≤ length numbers
-    pub room : bytes + length (lines_with lines (drop given numbers)) ≤ capacity

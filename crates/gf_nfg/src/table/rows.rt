@@ -1,8 +1,7 @@
 //! Rows of payoffs, one for each profile. Profiles may share them.
 
-ghost use Rattle.std.specs.Prelude.{◌≡◌, ◌<◌, ◌^◌, Some, IfOk, IfSome, MatchResult, drop, length};
+ghost use Rattle.std.specs.Prelude.{◌≡◌, ◌<◌, ◌^◌, Some, IfOk, IfSome, MatchResult, length};
 ghost use Rattle.std.specs.Prelude.{slice_get, true};
-ghost use Rattle.std.specs.List.{AllByRecursion, flat_map};
 ghost use Rattle.gf_nfg.specs.TableParts.{AreShared, HasRows, kept_rows};
 
 use gf_fraction::Fraction;
@@ -65,22 +64,6 @@ impl NumberedRows {
             && self.count == o.count
             && self.zeros.as_slice() == o.zeros.as_slice()
             && self.payoffs.as_slice() == o.payoffs.as_slice()
-    }
-
-    /// How many payoffs each row after the first one has.
-    #[tactic(auto, using(crate::proofs::lemmas::tables::Rows::numbered))]
-    fn players(&self) -> usize
-        ensures { AllByRecursion (λ row. length row ≡ result) (drop 1 self.now) }
-    {
-        self.players
-    }
-
-    /// The payoffs of all rows after the first one, in turn.
-    #[tactic(auto, using(crate::proofs::lemmas::tables::Rows::numbered))]
-    fn into_payoffs(self) -> Vec<Fraction>
-        ensures { result.items ≡ flat_map (λ row. row) (drop 1 self) }
-    {
-        self.payoffs
     }
 }
 
@@ -165,19 +148,6 @@ impl Rows {
             Some(number) => self.rows.row(*number as usize),
             None => self.rows.row(place as usize + 1),
         }
-    }
-
-    /// The payoffs in the order of a file, if there are players and profiles do not share rows.
-    #[tactic(auto, using(crate::proofs::lemmas::tables::Rows::payoffs_in_turn))]
-    pub(crate) fn into_payoffs(self) -> Result<Vec<Fraction>, Rows>
-        ensures { MatchResult result (λ payoffs. (payoffs.items ≡ flat_map (λ row. row) self)
-            × AllByRecursion (λ row. 0 < length row) self) (λ rows. rows ≡ self) }
-    {
-        let (players, chosen) = (self.rows.players(), self.numbers.len());
-        if players == 0 || chosen > 0 {
-            return Err(self);
-        }
-        Ok(self.rows.into_payoffs())
     }
 
     /// The rows and the number of one at each profile, if profiles may share them.

@@ -1,4 +1,4 @@
-//! The canonical text of a strategic file.
+//! The canonical text of a strategic file, and of a table.
 
 ghost use Rattle.std.specs.Prelude.{◌≡◌, ◌++◌, [], List, ℕ, IfErr, IfOk, map};
 ghost use Rattle.gf_token.specs.declared.fault.Why.TheVariants.{Memory};
@@ -8,6 +8,7 @@ ghost use Rattle.gf_nfg.specs.NamedBy.{named_by};
 ghost use Rattle.gf_nfg.specs.inner.Meaning.{IsComplete, rows_by};
 ghost use Rattle.gf_nfg.specs.inner.ReaderState.{content_of};
 ghost use Rattle.gf_nfg.specs.TableText.{SpellsTable, lines_text, table_text};
+ghost use Rattle.gf_nfg.specs.TextPieces.{IsUngiven};
 ghost use Rattle.gf_nfg.specs.inner.TextParts.{row_text};
 
 use crate::parts::Parts;
@@ -16,6 +17,7 @@ use crate::receive::Version;
 use crate::table::Table;
 use crate::text::Text;
 use crate::text::pieces::TextPieces;
+use crate::text::write::write_heading;
 use gf_token::{Fault, Why};
 use std::alloc::{AllocError, Global};
 
@@ -25,7 +27,7 @@ fn with_lines(alloc: Global, text: Vec<u8>, parts: Parts<'_>) -> Result<TextPiec
     ensures rest { IfOk result (λ whole. whole.rest ≡ text.items
         ++ lines_text
         (map row_text (rows_by (content_of parts.entry) parts.entry.kept.numbers.items))) }
-    ensures none { IfOk result (λ whole. whole.piece ≡ []) }
+    ensures ungiven { IfOk result IsUngiven }
 {
     let rows = parts.rows(alloc)?;
     TextPieces::with_rows(alloc, text, rows)
@@ -41,7 +43,7 @@ fn with_lines(alloc: Global, text: Vec<u8>, parts: Parts<'_>) -> Result<TextPiec
 pub fn canonical_nfg(alloc: Global, input: &[u8], named: bool) -> Result<TextPieces, Fault>
     ensures text { IfOk result (λ text. (t : Table) × SpellsTable input.now t × IsWithinLimit t
         × (text.rest ≡ table_text (named_by named t))) }
-    ensures none { IfOk result (λ text. text.piece ≡ []) }
+    ensures ungiven { IfOk result IsUngiven }
     ensures only { IfErr result (λ fault. (t : Table) → SpellsTable input.now t → IsWithinLimit t
         → fault.why ≡ Memory) }
     ensures judged { IfErr result (λ fault. IsJudged fault.why input.now fault.span) }
@@ -61,4 +63,23 @@ pub fn canonical_nfg(alloc: Global, input: &[u8], named: bool) -> Result<TextPie
         Ok(text) => Ok(text),
         Err(_) => Err(Fault::at_end(input.len(), Why::Memory)),
     }
+}
+
+/// The canonical text of a table. Its strategies and payoffs are written as it is given, unless
+/// profiles share payoffs, so little memory is taken beside them.
+///
+/// # Errors
+///
+/// `AllocError` if memory is refused.
+pub fn text_of(alloc: Global, t: Table) -> Result<TextPieces, AllocError>
+    ensures rest { IfOk result (λ text. text.rest ≡ table_text t) }
+    ensures none { IfOk result (λ text. text.piece ≡ []) }
+{
+    let (names, rows) = t.into_parts();
+    if rows.shared().is_none() {
+        return TextPieces::of_table(alloc, names, rows);
+    }
+    let mut text = Vec::new(alloc);
+    write_heading(&names, true, &mut text)?;
+    TextPieces::with_rows(alloc, text, rows)
 }

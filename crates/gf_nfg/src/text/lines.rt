@@ -1,12 +1,12 @@
 //! The lines of payoffs of a canonical text, one for each profile.
 
-ghost use Rattle.std.specs.Prelude.{◌≡◌, ◌+◌, ◌<◌, ◌≤◌, ◌^◌, ◌++◌, ◌∷◌, IfOk, get_or};
+ghost use Rattle.std.specs.Prelude.{◌≡◌, ◌+◌, ◌*◌, ◌<◌, ◌≤◌, ◌^◌, ◌++◌, ◌∷◌, IfOk, get_or};
 ghost use Rattle.std.specs.Prelude.{MatchOption, OnErr, OnOk, Some, [], drop, length, map};
 ghost use Rattle.std.specs.Prelude.{slice_get, vec_capacity, vec_len};
 ghost use Rattle.std.specs.List.{AllByRecursion};
 ghost use Rattle.gf_fraction.specs.NumberText.{number_text};
 ghost use Rattle.gf_nfg.specs.TableText.{lines_text};
-ghost use Rattle.gf_nfg.specs.inner.TextParts.{line_text, lines_with, row_text};
+ghost use Rattle.gf_nfg.specs.inner.TextParts.{line_text, lines_rest, lines_with, row_text};
 ghost use Rattle.gf_token.specs.TextLayout.{Keeps, others_text};
 
 use crate::table::pieces::piece;
@@ -16,10 +16,14 @@ use std::alloc::{AllocError, Global};
 use std::marker::Model;
 
 /// Appends payoffs, each after a space.
+#[inline(always)]
 fn write_others(payoffs: &[Fraction], out: &mut Vec<u8>) -> Result<(), AllocError>
     ensures text { OnOk result
         (out.new.items ≡ out.old.items ++ others_text (map number_text payoffs.now)) }
     ensures kept { OnErr result (Keeps out.old.items out.new.items) }
+    ensures full { OnErr result (vec_capacity out.old < vec_len out.old + 81 * length payoffs.now) }
+    ensures grown { vec_len out.new ≤ vec_len out.old + 81 * length payoffs.now }
+    ensures capacity { vec_capacity out.old ≤ vec_capacity out.new }
 {
     for payoff in payoffs {
         out.push(b' ')?;
@@ -29,10 +33,14 @@ fn write_others(payoffs: &[Fraction], out: &mut Vec<u8>) -> Result<(), AllocErro
 }
 
 /// Appends the line of the payoffs at one profile, with a space between any two.
+#[inline(always)]
 #[tactic(auto, using(crate::proofs::lemmas::texts::Pieces::rows_spaced))]
 fn write_line(payoffs: &[Fraction], out: &mut Vec<u8>) -> Result<(), AllocError>
     ensures text { OnOk result (out.new.items ≡ out.old.items ++ line_text payoffs.now) }
     ensures kept { OnErr result (Keeps out.old.items out.new.items) }
+    ensures full { OnErr result
+        (vec_capacity out.old < vec_len out.old + (81 * length payoffs.now + 1)) }
+    ensures capacity { vec_capacity out.old ≤ vec_capacity out.new }
 {
     let Some((first, others)) = payoffs.split_first() else {
         out.push(b'\n')?;
@@ -181,6 +189,33 @@ fn write_shared(rows: &NumberedRows, numbers: &[u32], out: &mut Vec<u8>) -> Resu
     Ok(())
 }
 
+/// Appends a line of payoffs for each profile from this place on, until there are this many bytes.
+/// Returns the place of the next one.
+pub(crate) fn write_lines(
+    rows: &Rows,
+    from: u32,
+    bytes: usize,
+    out: &mut Vec<u8>,
+) -> Result<u32, AllocError>
+    requires { from ≤ length rows.now }
+    ensures within { IfOk result (λ next. next ≤ length rows.now) }
+    ensures text { IfOk result (λ next. out.new.items ++ lines_rest rows.now next
+        ≡ out.old.items ++ lines_rest rows.now from) }
+    ensures whole { IfOk result (λ next. length out.new.items < bytes → next ≡ length rows.now) }
+    ensures kept { OnErr result (Keeps out.old.items out.new.items) }
+    ensures full { OnErr result (¬ (AllByRecursion
+        (λ row. bytes + (81 * length row + 1) ≤ vec_capacity out.old) rows.now)) }
+    ensures capacity { vec_capacity out.old ≤ vec_capacity out.new }
+{
+    for place in from..rows.len() {
+        if out.len() >= bytes {
+            return Ok(place);
+        }
+        write_line(rows.row(place), out)?;
+    }
+    Ok(rows.len())
+}
+
 /// Appends a line of payoffs for each profile.
 pub(crate) fn write_rows(rows: &Rows, out: &mut Vec<u8>) -> Result<(), AllocError>
     ensures text { OnOk result
@@ -193,8 +228,6 @@ pub(crate) fn write_rows(rows: &Rows, out: &mut Vec<u8>) -> Result<(), AllocErro
         }
         _ => {}
     }
-    for place in 0..rows.len() {
-        write_line(rows.row(place), out)?;
-    }
+    write_lines(rows, 0, usize::MAX, out)?;
     Ok(())
 }

@@ -86,8 +86,7 @@ pub(crate) fn write_lists(
     ensures whole { IfOk result
         (λ more. length out.new.items < bytes → lists_left lists.now more ≡ []) }
     ensures kept { OnErr result (Keeps out.old.items out.new.items) }
-    ensures full { OnErr result ((0 < length lists.now)
-        × (vec_capacity out.old < bytes + (size_of lists.now + 3))) }
+    ensures full { OnErr result (vec_capacity out.old < bytes + (size_of lists.now + 3)) }
     ensures capacity { vec_capacity out.old ≤ vec_capacity out.new }
 {
     let mut written = written;

@@ -1,48 +1,48 @@
 //! A text that is given piece by piece, so that one that is much longer than its file need not be
 //! held in memory.
 
-ghost use Rattle.std.specs.Prelude.{◌≡◌, ◌<◌, ◌++◌, [], false, true, IfOk, length, map};
+ghost use Rattle.std.specs.Prelude.{◌≡◌, ◌<◌, ◌++◌, [], false, true, IfOk, MatchOption};
+ghost use Rattle.std.specs.Prelude.{length, map};
 ghost use Rattle.std.specs.List.{AllByRecursion};
 ghost use Rattle.gf_nfg.specs.TableText.{lines_text};
-ghost use Rattle.gf_nfg.specs.inner.TextParts.{lines_with, row_text};
+ghost use Rattle.gf_nfg.specs.TextPieces.{IsUngiven};
+ghost use Rattle.gf_nfg.specs.inner.TextParts.{heading_text, row_text};
 
+use crate::table::names::Names;
 use crate::table::rows::Rows;
 use crate::text::lines::{Lines, write_rows};
+use crate::text::lists::ListsWritten;
+use crate::text::rest::{MOST, PIECE, Rest};
+use crate::text::write::{write_ending, write_front};
 use std::alloc::{AllocError, Global};
 use std::marker::Model;
 
-/// How many bytes a piece has, or up to a line more; the last one may have fewer.
-pub(crate) const PIECE: usize = 65_536;
-
-/// A text that is given piece by piece.
+/// A text that is given piece by piece. Room for its pieces is made with it, so that no memory can
+/// be refused when a part of it is already written.
 #[derive(Drop)]
 pub struct TextPieces {
     /// The piece that was given last; before the first one, what it begins with.
     piece: Vec<u8>,
     /// Whether the first piece was given.
     begun: bool,
-    lines: Lines,
-    /// The numbers of the lines that end the text, one after another.
-    numbers: Vec<u32>,
-    /// How many of them were given.
-    next: usize,
+    rest: Rest,
 }
 
 impl Model for TextPieces {
-    ghost use Rattle.std.specs.Prelude.{◌++◌, [], drop, if◌then◌else◌, vec_capacity, vec_len};
+    ghost use Rattle.std.specs.Prelude.{◌++◌, [], if◌then◌else◌, vec_capacity, vec_len};
     ghost use Rattle.gf_nfg.specs.TextPieces.{TextLeft};
-    ghost use Rattle.gf_nfg.specs.inner.TextParts.{HasRoom, lines_with};
+    ghost use Rattle.gf_nfg.specs.inner.TextRest.{HasRoom, are_copies, rest_text};
 
     ghost Value = { TextLeft };
 
     ghost view = { λ t. record {
       piece = if t.begun then t.piece.items else [];
-      rest = (if t.begun then [] else t.piece.items)
-          ++ lines_with t.lines (drop t.next t.numbers.items);
+      rest = (if t.begun then [] else t.piece.items) ++ rest_text t.rest;
+      has_room = are_copies t.rest;
     } };
 
-    ghost invariant = { λ t. HasRoom t.lines t.numbers.items t.next
-        (if t.begun then 0 else vec_len t.piece) (vec_capacity t.piece) };
+    ghost invariant = { λ t.
+        HasRoom t.rest (if t.begun then 0 else vec_len t.piece) (vec_capacity t.piece) };
 }
 
 impl TextPieces {
@@ -50,15 +50,17 @@ impl TextPieces {
     // No edit: it puts parts together.
     pub fn of(text: Vec<u8>) -> TextPieces
         ensures rest { result.rest ≡ text.items }
-        ensures none { result.piece ≡ [] }
+        ensures ungiven { IsUngiven result }
     {
         let alloc = *text.allocator();
         TextPieces {
             piece: text,
             begun: false,
-            lines: Lines::none(alloc),
-            numbers: Vec::new(alloc),
-            next: 0,
+            rest: Rest::Copies {
+                lines: Lines::none(alloc),
+                numbers: Vec::new(alloc),
+                next: 0,
+            },
         }
     }
 
@@ -72,7 +74,7 @@ impl TextPieces {
         rows: Rows,
     ) -> Result<TextPieces, AllocError>
         ensures rest { IfOk result (λ t. t.rest ≡ text.items ++ lines_text (map row_text rows)) }
-        ensures none { IfOk result (λ t. t.piece ≡ []) }
+        ensures ungiven { IfOk result IsUngiven }
     {
         let mut piece = text;
         match rows.into_shared() {
@@ -82,9 +84,11 @@ impl TextPieces {
                 Ok(TextPieces {
                     piece,
                     begun: false,
-                    lines,
-                    numbers,
-                    next: 0,
+                    rest: Rest::Copies {
+                        lines,
+                        numbers,
+                        next: 0,
+                    },
                 })
             }
             Err(rows) => {
@@ -94,19 +98,51 @@ impl TextPieces {
         }
     }
 
+    /// The text of a table. The strategies are made as it is given, and so is the line of each
+    /// profile. A piece has room for what may come last in it: a label, the ending, or a line.
+    pub(crate) fn of_table(
+        alloc: Global,
+        names: Names,
+        rows: Rows,
+    ) -> Result<TextPieces, AllocError>
+        requires { AllByRecursion (λ row. length row ≡ length names.players) rows }
+        ensures rest { IfOk result
+            (λ t. t.rest ≡ heading_text names ++ lines_text (map row_text rows)) }
+        ensures none { IfOk result (λ t. t.piece ≡ []) }
+    {
+        let mut piece = Vec::new(alloc);
+        write_front(&names, true, &mut piece)?;
+        let mut ending = Vec::new(alloc);
+        write_ending(&names, true, &mut ending)?;
+        let line = names.players().saturating_mul(MOST);
+        let strategies = names.into_lists();
+        let longest = strategies.size().max(ending.len()).max(line);
+        piece.reserve_exact(longest.saturating_add(PIECE + 3))?;
+        Ok(TextPieces {
+            piece,
+            begun: false,
+            rest: Rest::Table {
+                strategies,
+                written: ListsWritten::nothing(),
+                ending,
+                rows,
+                next: 0,
+            },
+        })
+    }
+
     /// Goes on to the next piece, and returns whether there is one.
-    // No edit: `TextAndPayoffs::advance` has one, and proofs of gf_run rely on this.
     pub fn advance(&mut self) -> bool
         ensures given { self.old.rest ≡ self.new.piece ++ self.new.rest }
         ensures some { result ≡ true → 0 < length self.new.piece }
         ensures end { result ≡ false → self.old.rest ≡ [] }
+        ensures room { self.new.has_room ≡ self.old.has_room }
     {
         if self.begun {
             self.piece.clear();
         }
         self.begun = true;
-        let rest = &self.numbers[self.next..];
-        self.next += self.lines.append_until(PIECE, rest, &mut self.piece);
+        self.rest.append_piece(&mut self.piece);
         !self.piece.is_empty()
     }
 
@@ -118,23 +154,25 @@ impl TextPieces {
         if self.begun { &self.piece } else { &[] }
     }
 
-    /// All that is still to come, as one vector.
+    /// All that is still to come, as one vector, if room for it was made.
     // No edit: it passes on `Lines::append`.
-    pub fn into_vec(self) -> Vec<u8>
-        ensures { result.items ≡ self.rest }
+    pub fn into_vec(self) -> Option<Vec<u8>>
+        ensures { MatchOption result (self.has_room ≡ false) (λ all. all.items ≡ self.rest) }
     {
-        let TextPieces {
-            piece,
-            begun,
+        let TextPieces { piece, begun, rest } = self;
+        let Rest::Copies {
             lines,
             numbers,
             next,
-        } = self;
+        } = rest
+        else {
+            return None;
+        };
         let mut text = piece;
         if begun {
             text.clear();
         }
         lines.append(&numbers[next..], &mut text);
-        text
+        Some(text)
     }
 }

@@ -1,13 +1,12 @@
 //! What the program does for the files of a collection, and what is done with them.
 
-ghost use Rattle.std.specs.Prelude.{◌≡◌, ◌++◌, IfOk, OnOk, map};
+ghost use Rattle.std.specs.Prelude.{◌≡◌, ◌++◌, IfOk, OnOk, codes, map};
 ghost use Rattle.std.specs.String.{string_bytes};
-ghost use Rattle.gf_run.specs.CollectionRun.{Does};
-ghost use Rattle.gf_run.specs.Performs.{AreToldOf, IsToldOfPaths, PerformsAll, list_name};
-ghost use Rattle.gf_run.specs.Performs.{line_without_games, without_games};
-ghost use Rattle.gf_run.specs.Session.{IsSame, world_of};
+ghost use Rattle.gf_run.specs.Performs.{AreToldOf, Does, IsSame, IsToldOfPaths, PerformsAll};
+ghost use Rattle.gf_run.specs.Performs.{without_games, world_of};
+ghost use Rattle.gf_run.specs.Reports.{after_name};
 
-use crate::collections::file::CollectionFile;
+use crate::collections::file::{CollectionFile, word_of};
 use crate::collections::folders::Repeats;
 use crate::collections::line::FileLine;
 use crate::collections::paths::files_at;
@@ -20,7 +19,7 @@ use crate::opening::inputs::Inputs;
 use crate::streams::last_error::LastError;
 use crate::streams::sink::{Sink, push_all};
 use gf_canon::Names;
-use gf_words::{Input, LineEnd, Paths};
+use gf_words::{LineEnd, Paths};
 use std::alloc::{AllocError, Global};
 use std::rt::Files;
 
@@ -45,16 +44,6 @@ impl Task {
     }
 }
 
-/// What a list of names is called.
-fn list_name(list: &Input) -> &str
-    ensures { result.now ≡ list_name list.now }
-{
-    match list {
-        Input::Standard => "-",
-        Input::File(name) => name.as_str(),
-    }
-}
-
 /// Reports why the files of a collection are not known, and returns the exit status: E20 after the
 /// name of the list, or E19.
 fn tell_unlisted<E: Sink>(alloc: Global, paths: &Paths, fault: &RunFault, errors: &mut E) -> u8
@@ -62,14 +51,8 @@ fn tell_unlisted<E: Sink>(alloc: Global, paths: &Paths, fault: &RunFault, errors
 {
     match (paths, fault) {
         (Paths::List { list, .. }, RunFault::Read(_)) => {
-            tell_of(
-                alloc,
-                fault,
-                &Cause::Transfer(None),
-                list_name(list),
-                None,
-                errors,
-            )
+            let cause = Cause::Transfer(None);
+            tell_of(alloc, fault, &cause, word_of(list), None, errors)
         }
         _ => tell(fault, errors),
     }
@@ -77,7 +60,8 @@ fn tell_unlisted<E: Sink>(alloc: Global, paths: &Paths, fault: &RunFault, errors
 
 /// Appends what is said of a folder that has no game files.
 fn push_without_games(alloc: Global, text: &mut Vec<u8>, folder: &str) -> Result<(), AllocError>
-    ensures { OnOk result (text.new.items ≡ text.old.items ++ line_without_games folder.now) }
+    ensures { OnOk result (text.new.items
+        ≡ text.old.items ++ after_name folder.now (codes "no game files\n")) }
 {
     let line = after_name(alloc, folder, b"no game files\n")?;
     text.extend_from_slice(line.as_slice())
@@ -125,9 +109,8 @@ impl<I: Inputs, P: Progress, W: Sink + LastError, E: Sink> Session<'_, '_, '_, '
     where
         R: Files + AllocGlobal,
         ensures same { IsSame self.old self.new }
-        ensures performed { PerformsAll I.opener E.writer
-            (Does I.opener I.Opened.reader W.writer E.writer self.old.explain task)
-            paths.now result (world_of self.old) (world_of self.new) }
+        ensures performed { PerformsAll I.opener I.Opened.reader W.writer E.writer self.old.explain
+            task paths.now result (world_of self.old) (world_of self.new) }
     {
         match files_at(rt, self.inputs, paths, task.repeats()) {
             Ok(found) => {

@@ -1,11 +1,10 @@
 //! The run that says which files are the same game.
 
 ghost use Rattle.std.specs.Prelude.{◌≡◌, List, MatchResult};
-ghost use Rattle.gf_run.specs.CollectionRun.{FindsAll, HashesNext, IsOutOfMemory, WritesGroups};
-ghost use Rattle.gf_run.specs.CollectionRun.{reading};
+ghost use Rattle.gf_run.specs.Performs.{FindsAll, HashesNext, IsOutOfMemory, IsSame, WritesGroups};
+ghost use Rattle.gf_run.specs.Performs.{reading, world_of};
 ghost use Rattle.gf_run.specs.Duplicates.{HashedFile, IsKeptOf};
 ghost use Rattle.gf_run.specs.Run.{ReadsHash};
-ghost use Rattle.gf_run.specs.Session.{IsSame, world_of};
 
 use crate::collections::file::{CollectionFile, name_of, open_file};
 use crate::collections::groups::Groups;
@@ -24,11 +23,6 @@ use gf_words::LineEnd;
 use std::alloc::{AllocError, Global};
 
 /// Reads a file whole, and returns the hash of its canonical text, with names or without.
-///
-/// # Errors
-///
-/// - `Refused`, `Read`: as `run_canon_by` has them.
-/// - `Memory`: memory ran out while the input was read.
 fn read_hash<R: Source>(alloc: Global, input: &mut R, names: Names) -> Result<[u8; 32], RunFault>
     ensures { ReadsHash R.reader names result input.old input.new }
 {

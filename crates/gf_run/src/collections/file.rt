@@ -1,9 +1,9 @@
 //! The files of a collection, and how they are opened.
 
 ghost use Rattle.std.specs.Prelude.{◌≡◌, MatchResult};
-ghost use Rattle.gf_run.specs.Kept.{bytes_kept, kept_at_first, source_of};
+ghost use Rattle.gf_run.specs.Wrapped.{bytes_kept, kept_at_first, source_of};
 ghost use Rattle.gf_run.specs.Opening.{IsFileNotOpened, IsFileOpened};
-ghost use Rattle.gf_run.specs.Reports.{name_of};
+ghost use Rattle.gf_run.specs.Reports.{name_of, word_of};
 
 use crate::explain::Cause;
 use crate::opening::inputs::{Inputs, open_kept};
@@ -21,13 +21,23 @@ pub enum CollectionFile {
     NotText(String),
 }
 
+/// The word that names an input.
+pub(crate) fn word_of(input: &Input) -> &str
+    ensures { result.now ≡ word_of input.now }
+{
+    match input {
+        Input::Standard => "-",
+        Input::File(name) => name.as_str(),
+    }
+}
+
 /// What a file is called.
 pub(crate) fn name_of(file: &CollectionFile) -> &str
     ensures { result.now ≡ name_of file.now }
 {
     match file {
-        CollectionFile::Input(Input::Standard) => "-",
-        CollectionFile::Input(Input::File(name)) | CollectionFile::NotText(name) => name.as_str(),
+        CollectionFile::Input(input) => word_of(input),
+        CollectionFile::NotText(name) => name.as_str(),
     }
 }
 
@@ -45,10 +55,9 @@ pub(crate) fn open_file<I: Inputs>(
         (λ _. IsFileNotOpened I.opener file.now inputs.old inputs.new) }
 {
     match file {
-        CollectionFile::Input(input) => match open_kept(alloc, inputs, input, keeps) {
-            Ok(kept) => Ok(kept),
-            Err(error) => Err(Cause::Opening(error)),
-        },
+        CollectionFile::Input(input) => {
+            open_kept(alloc, inputs, input, keeps).map_err(Cause::Opening)
+        }
         CollectionFile::NotText(_) => Err(Cause::Transfer(None)),
     }
 }

@@ -25,12 +25,9 @@ fn file_in(alloc: Global, folder: &[u8], name: &[u8]) -> Result<CollectionFile, 
 
 /// Whether a name ends like that of a game file, in upper or lower case.
 fn is_game_file(name: &str) -> bool {
-    match name.rsplit_once('.') {
-        Some((_, ending)) => {
-            ending.eq_ignore_ascii_case("efg") || ending.eq_ignore_ascii_case("nfg")
-        }
-        None => false,
-    }
+    name.rsplit_once('.').is_some_and(|(_, ending)| {
+        ending.eq_ignore_ascii_case("efg") || ending.eq_ignore_ascii_case("nfg")
+    })
 }
 
 /// Which file or folder something is: its device, and its number there.

@@ -2,9 +2,9 @@
 
 ghost use Rattle.std.specs.Prelude.{◌≡◌, List, [], ◌∷◌, ◌++◌, map, MatchResult, OnOk};
 ghost use Rattle.std.specs.Prelude.{if◌then◌else◌};
-ghost use Rattle.gf_run.specs.Duplicates.{HashedFile, IsKeptOf, KeptNames};
-ghost use Rattle.gf_run.specs.Duplicates.{are_apart, duplicates, groups_text, name_lines};
-ghost use Rattle.gf_run.specs.NameText.{end_text};
+ghost use Rattle.gf_run.specs.Duplicates.{HashedFile, IsKeptOf, KeptNames, are_apart, duplicates};
+ghost use Rattle.gf_run.specs.Duplicates.{groups_text, name_lines};
+ghost use Rattle.gf_run.specs.LineText.{end_text};
 
 use crate::fault::RunFault;
 use crate::texts::answer::{Answer, answer_with};
@@ -101,6 +101,6 @@ impl<'a> Groups<'a> {
             push_group(&mut text, group.as_slice(), end, apart)?;
             apart = false;
         }
-        Ok(answer_with(alloc, apart, text))
+        Ok(answer_with(apart, text))
     }
 }

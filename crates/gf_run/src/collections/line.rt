@@ -2,7 +2,7 @@
 
 ghost use Rattle.std.specs.Prelude.{◌≡◌, ◌++◌, IfOk, MatchResult, codes};
 ghost use Rattle.gf_run.specs.LineText.{IsHashOf, IsLineOf, hash_line, kind_line};
-ghost use Rattle.gf_run.specs.NoAnswer.{IsFaultOfFile};
+ghost use Rattle.gf_run.specs.FormText.{IsFaultOfFile};
 ghost use Rattle.gf_run.specs.Run.{RunsLine};
 
 use crate::fault::{RunFault, Which, refused};
@@ -29,8 +29,7 @@ pub enum FileLine {
 
 /// The line of a kind after the name of the file.
 fn named_kind(alloc: Global, name: &str, kind: FileKind) -> Result<Vec<u8>, AllocError>
-    ensures { IfOk result (λ line.
-        line.items ≡ name.now ++ codes ": " ++ kind_line kind) }
+    ensures { IfOk result (λ line. line.items ≡ name.now ++ codes ": " ++ kind_line kind) }
 {
     let mut line = joined(alloc, &[name.as_bytes(), b": "])?;
     line.extend_from_slice(kind_line(kind))?;
@@ -53,10 +52,7 @@ fn hash_line(alloc: Global, name: &str, end: LineEnd, hash: [u8; 32]) -> Result<
     ensures { IfOk result (λ line. line.items ≡ hash_line end name.now hash) }
 {
     let digits = hex::encode(alloc, hash)?;
-    let mut line = Vec::new(alloc);
-    line.extend_from_slice(mark(name, end))?;
-    line.extend_from_slice(digits.as_bytes())?;
-    line.extend_from_slice(b"  ")?;
+    let mut line = joined(alloc, &[mark(name, end), digits.as_bytes(), b"  "])?;
     push_name(&mut line, name, end)?;
     line.extend_from_slice(end_text(end))?;
     Ok(line)
@@ -70,7 +66,7 @@ fn said_of_kind(alloc: Global, bytes: &[u8], name: &str) -> Result<Answer<bool>,
 {
     let kind = kind_of(alloc, bytes)?;
     let line = named_kind(alloc, name, kind)?;
-    Ok(answer_with(alloc, true, line))
+    Ok(answer_with(true, line))
 }
 
 /// What is said of a hash.
@@ -87,7 +83,7 @@ fn said_of_hash(
 {
     let hash = hash_of(alloc, bytes, names)?;
     let line = hash_line(alloc, name, end, hash)?;
-    Ok(answer_with(alloc, true, line))
+    Ok(answer_with(true, line))
 }
 
 /// What is said of a file that should be its own canonical text.
@@ -106,7 +102,7 @@ fn said_of_canon(
     if !good {
         push_name_line(&mut text, name, LineEnd::LineFeed)?;
     }
-    Ok(answer_with(alloc, good, text))
+    Ok(answer_with(good, text))
 }
 
 /// What is written about the file of this name, which has these bytes.

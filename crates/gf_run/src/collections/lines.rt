@@ -1,8 +1,7 @@
 //! The run that writes a line about each of several files.
 
 ghost use Rattle.std.specs.Prelude.{MatchResult};
-ghost use Rattle.gf_run.specs.CollectionRun.{IsCutOff, WritesAll, WritesNext};
-ghost use Rattle.gf_run.specs.Session.{IsSame, world_of};
+ghost use Rattle.gf_run.specs.Performs.{IsCutOff, IsSame, WritesAll, WritesNext, world_of};
 
 use crate::collections::file::{CollectionFile, name_of, open_file};
 use crate::collections::line::{FileLine, run_line};

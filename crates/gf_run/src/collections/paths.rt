@@ -1,6 +1,7 @@
 //! The files of a collection: those that words or a list of names lead to.
 
-ghost use Rattle.std.specs.Prelude.{◌≡◌, ◌∷◌, [], IfOk, map};
+ghost use Rattle.std.specs.Prelude.{◌≡◌, [], IfOk, map};
+ghost use Rattle.std.specs.Str.Lossy.{utf8_lossy};
 ghost use Rattle.std.specs.String.{string_bytes};
 ghost use Rattle.gf_run.specs.Performs.{AreFoldersOf, ArePathsOpened, AreSomeOf, IsOfPaths};
 
@@ -10,6 +11,7 @@ use crate::fault::{RunFault, Which};
 use crate::opening::inputs::{Inputs, open_input};
 use gf_words::{Input, LineEnd, Paths};
 use std::alloc::AllocError;
+use std::convert::AsSlice;
 use std::rt::Files;
 
 /// The files of a collection, and the folders that were named and have no game files.
@@ -28,9 +30,8 @@ fn names_in<R: AllocGlobal, I: Inputs>(
 ) -> Result<Vec<Vec<u8>>, RunFault>
     ensures { ArePathsOpened I.opener (Paths.List list.now end) inputs.old inputs.new }
 {
-    let input = match open_input(inputs, list) {
-        Ok(input) => input,
-        Err(_) => return Err(RunFault::Read(Which::Only)),
+    let Ok(input) = open_input(inputs, list) else {
+        return Err(RunFault::Read(Which::Only));
     };
     let mut names = Vec::new(rt.alloc());
     if is_whole(push_listed(rt.alloc(), input, end, &mut names))? {
@@ -40,41 +41,23 @@ fn names_in<R: AllocGlobal, I: Inputs>(
     }
 }
 
-/// The files that the paths in a list lead to, in their order.
-fn files_listed<R: Files + AllocGlobal>(
+/// The files that these paths lead to, in their order.
+fn files_led_to<R: Files + AllocGlobal, P: AsSlice<u8>>(
     rt: &R,
-    paths: &[Vec<u8>],
-    repeats: Repeats,
-) -> Result<FoundFiles, AllocError> {
-    let mut kept = KeptFiles::new(rt.alloc(), repeats);
-    let mut without_games = Vec::new(rt.alloc());
-    for path in paths {
-        if !push_files(rt, path.as_slice(), &mut kept)? {
-            without_games.push(String::from_utf8_lossy(rt.alloc(), path.as_slice())?)?;
-        }
-    }
-    Ok(FoundFiles {
-        files: kept.files,
-        without_games,
-    })
-}
-
-/// The files that paths in words lead to, in their order.
-fn files_named<R: Files + AllocGlobal>(
-    rt: &R,
-    paths: &[String],
+    paths: &[P],
     repeats: Repeats,
 ) -> Result<FoundFiles, AllocError>
-    ensures { IfOk result (λ found.
-        AreSomeOf (map string_bytes paths.now) (map string_bytes found.without_games.items)) }
+    ensures { IfOk result (λ found. AreSomeOf (map (λ path. utf8_lossy (P.items path)) paths.now)
+        (map string_bytes found.without_games.items)) }
 {
     let mut kept = KeptFiles::new(rt.alloc(), repeats);
     let mut without_games = Vec::new(rt.alloc());
     for path in paths {
-        if push_files(rt, path.as_bytes(), &mut kept)? {
+        let path = path.as_slice();
+        if push_files(rt, path, &mut kept)? {
             continue;
         }
-        without_games.push(String::from_str(rt.alloc(), path.as_str())?)?;
+        without_games.push(String::from_utf8_lossy(rt.alloc(), path)?)?;
     }
     Ok(FoundFiles {
         files: kept.files,
@@ -84,8 +67,7 @@ fn files_named<R: Files + AllocGlobal>(
 
 /// Standard input alone.
 fn standard_input<R: AllocGlobal>(rt: &R) -> Result<FoundFiles, AllocError>
-    ensures files { IfOk result (λ found.
-        found.files.items ≡ CollectionFile.Input Input.Standard ∷ []) }
+    ensures files { IfOk result (λ found. IsOfPaths Paths.Standard found.files.items) }
     ensures folders { IfOk result (λ found. found.without_games.items ≡ []) }
 {
     let input = CollectionFile::Input(Input::Standard);
@@ -116,10 +98,10 @@ pub fn files_at<R: Files + AllocGlobal, I: Inputs>(
 {
     match paths {
         Paths::Standard => Ok(standard_input(rt)?),
-        Paths::Named(names) => Ok(files_named(rt, names.as_slice(), repeats)?),
+        Paths::Named(names) => Ok(files_led_to(rt, names.as_slice(), repeats)?),
         Paths::List { list, end } => {
             let names = names_in(rt, inputs, list, *end)?;
-            Ok(files_listed(rt, names.as_slice(), repeats)?)
+            Ok(files_led_to(rt, names.as_slice(), repeats)?)
         }
     }
 }

@@ -1,9 +1,8 @@
 //! The run that puts the canonical texts of files in their place.
 
 ghost use Rattle.std.specs.Prelude.{◌≡◌};
-ghost use Rattle.gf_run.specs.CollectionRun.{IsReplacedBy, IsRewritten, Rewrites, RewritesAll};
-ghost use Rattle.gf_run.specs.CollectionRun.{RewritesNext, unreplaced_fault, without_cause};
-ghost use Rattle.gf_run.specs.Session.{IsSame, world_of};
+ghost use Rattle.gf_run.specs.Performs.{IsReplacedBy, IsRewritten, IsSame, Rewrites, RewritesAll};
+ghost use Rattle.gf_run.specs.Performs.{RewritesNext, unreplaced_fault, without_cause, world_of};
 
 use crate::collections::file::{CollectionFile, name_of, open_file};
 use crate::collections::progress::Progress;
@@ -17,7 +16,7 @@ use crate::streams::sink::Sink;
 use crate::streams::source::load;
 use crate::texts::game::{are_canonical, canon};
 use gf_canon::Names;
-use gf_nfg::TextAndPayoffs;
+use gf_nfg::TextPieces;
 use gf_words::Input;
 use std::alloc::Global;
 
@@ -32,10 +31,8 @@ impl From<RunFault> for Failed {
     ghost from_gives = { λ fault failed. failed.fault ≡ fault };
 
     fn from(fault: RunFault) -> Failed {
-        Failed {
-            fault,
-            cause: Cause::Transfer(None),
-        }
+        let cause = Cause::Transfer(None);
+        Failed { fault, cause }
     }
 }
 
@@ -54,11 +51,7 @@ impl From<Unreplaced> for Failed {
 }
 
 /// Puts a text in the place of a file. Standard input has none.
-fn replace<I: Inputs>(
-    inputs: &mut I,
-    file: &CollectionFile,
-    text: TextAndPayoffs,
-) -> Result<(), Failed>
+fn replace<I: Inputs>(inputs: &mut I, file: &CollectionFile, text: TextPieces) -> Result<(), Failed>
     ensures { IsReplacedBy I.opener file.now text.rest (without_cause result)
         inputs.old inputs.new }
 {

@@ -2,8 +2,8 @@
 
 ghost use Rattle.std.specs.Prelude.{◌≡◌, IfOk, option_map};
 ghost use Rattle.gf_run.specs.Faults.{fault_line, status_of};
-ghost use Rattle.gf_run.specs.Kept.{kept_at_first};
-ghost use Rattle.gf_run.specs.Reports.{IsAnswered, IsNamedExplanation, IsNamedText, IsReported};
+ghost use Rattle.gf_run.specs.Wrapped.{kept_at_first};
+ghost use Rattle.gf_run.specs.Reports.{IsAnswered, IsLineOr, IsNamedExplanation, IsReported};
 ghost use Rattle.gf_run.specs.Reports.{IsTold, IsToldOf, after_name};
 
 use crate::explain::{Cause, explanation};
@@ -54,6 +54,14 @@ pub(crate) fn tell_of_file<E: Sink>(
     }
 }
 
+/// What is kept of an input of which nothing was read.
+fn nothing_kept(explain: bool) -> Option<&'static [u8]>
+    ensures { option_map (λ bytes. bytes.now) result ≡ kept_at_first explain }
+{
+    let nothing: &[u8] = &[];
+    if explain { Some(nothing) } else { None }
+}
+
 /// Reports that the input of this name could not be opened, and returns the exit status. This is
 /// explained if `explain` is true.
 pub(crate) fn tell_unopened<E: Sink>(
@@ -67,10 +75,8 @@ pub(crate) fn tell_unopened<E: Sink>(
     ensures { IsReported E.writer name.now (kept_at_first explain) (RunFault.Read which)
         result errors.old errors.new }
 {
-    let nothing: &[u8] = &[];
-    let kept = if explain { Some(nothing) } else { None };
-    let cause = Cause::Opening(error);
-    tell_of_file(alloc, &RunFault::Read(which), &cause, name, kept, errors)
+    let (fault, cause) = (RunFault::Read(which), Cause::Opening(error));
+    tell_of_file(alloc, &fault, &cause, name, nothing_kept(explain), errors)
 }
 
 /// A text after the name of its file, as it is shown.
@@ -107,8 +113,9 @@ fn named_text(
     name: &str,
     kept: Option<&[u8]>,
 ) -> Result<Vec<u8>, AllocError>
-    ensures { IfOk result (λ text. IsNamedText fault.now name.now
-        (option_map (λ bytes. bytes.now) kept.entry) text.items) }
+    ensures { IfOk result (λ text. IsLineOr (after_name name.now (fault_line fault.now))
+        (IsNamedExplanation fault.now name.now) (option_map (λ bytes. bytes.now) kept.entry)
+        text.items) }
 {
     if let Some(bytes) = kept {
         if let Ok(text) = named_explanation(alloc, fault, cause, name, bytes) {
@@ -151,16 +158,8 @@ pub(crate) fn tell_unopened_of<E: Sink>(
     ensures { IsToldOf E.writer name.now (kept_at_first explain) (RunFault.Read Which.Only)
         result errors.old errors.new }
 {
-    let nothing: &[u8] = &[];
-    let kept = if explain { Some(nothing) } else { None };
-    tell_of(
-        alloc,
-        &RunFault::Read(Which::Only),
-        cause,
-        name,
-        kept,
-        errors,
-    )
+    let fault = RunFault::Read(Which::Only);
+    tell_of(alloc, &fault, cause, name, nothing_kept(explain), errors)
 }
 
 /// Answers words that ask for no job, and returns the exit status.

@@ -1,7 +1,6 @@
 //! What the program does for a request.
 
-ghost use Rattle.gf_run.specs.Performs.{Performs};
-ghost use Rattle.gf_run.specs.Session.{IsSame, world_of};
+ghost use Rattle.gf_run.specs.Performs.{IsSame, Performs, world_of};
 
 use crate::collections::collection::Task;
 use crate::collections::line::FileLine;

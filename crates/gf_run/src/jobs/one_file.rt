@@ -1,9 +1,8 @@
 //! The jobs over one input.
 
 ghost use Rattle.std.specs.Prelude.{◌≡◌};
-ghost use Rattle.gf_run.specs.Performs.{PerformsOne, RunsOne, strategies_of};
+ghost use Rattle.gf_run.specs.Performs.{IsSame, PerformsOne, RunsOne, strategies_of, world_of};
 ghost use Rattle.gf_run.specs.Reports.{called_input};
-ghost use Rattle.gf_run.specs.Session.{IsSame, world_of};
 
 use crate::explain::cause_of;
 use crate::fault::{RunFault, Which};

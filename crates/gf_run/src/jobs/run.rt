@@ -1,7 +1,5 @@
 //! The runs over an input that is open: each reads it whole, judges it, and writes its answer.
 
-ghost use Rattle.gf_canon.specs.declared.sameness.Names.TheVariants.{Kept};
-ghost use Rattle.gf_form.specs.declared.forms.Strategies.TheVariants.{Pure, Reduced};
 ghost use Rattle.gf_run.specs.Run.{RunsCanonBy, RunsCheck, RunsTable};
 
 use crate::fault::{RunFault, Which};
@@ -53,7 +51,8 @@ pub fn run_canon<R: Source, W: Sink>(
     input: &mut R,
     output: &mut W,
 ) -> Result<(), RunFault>
-    ensures { RunsCanonBy R.reader W.writer Kept result input.old input.new output.old output.new }
+    ensures { RunsCanonBy R.reader W.writer Names.Kept result input.old input.new
+        output.old output.new }
 {
     run_canon_by(alloc, input, Names::Kept, output)
 }
@@ -110,7 +109,8 @@ pub fn run_table<R: Source, W: Sink>(
     input: &mut R,
     output: &mut W,
 ) -> Result<(), RunFault>
-    ensures { RunsTable R.reader W.writer Pure result input.old input.new output.old output.new }
+    ensures { RunsTable R.reader W.writer Strategies.Pure result input.old input.new
+        output.old output.new }
 {
     run_form(alloc, input, Strategies::Pure, output)
 }
@@ -128,7 +128,7 @@ pub fn run_table_reduced<R: Source, W: Sink>(
     input: &mut R,
     output: &mut W,
 ) -> Result<(), RunFault>
-    ensures { RunsTable R.reader W.writer Reduced result input.old input.new
+    ensures { RunsTable R.reader W.writer Strategies.Reduced result input.old input.new
         output.old output.new }
 {
     run_form(alloc, input, Strategies::Reduced, output)

@@ -1,11 +1,9 @@
 //! The job over two files.
 
 ghost use Rattle.gf_run.specs.Faults.{answer_status};
-ghost use Rattle.gf_run.specs.Kept.{bytes_kept, kept_reader};
-ghost use Rattle.gf_run.specs.Performs.{PerformsTwo, of_fault};
+ghost use Rattle.gf_run.specs.Wrapped.{bytes_kept};
+ghost use Rattle.gf_run.specs.Performs.{IsSame, PerformsTwo, of_fault, world_of};
 ghost use Rattle.gf_run.specs.Reports.{Ends, IsReported};
-ghost use Rattle.gf_run.specs.Run.{RunsTwo};
-ghost use Rattle.gf_run.specs.Session.{IsSame, world_of};
 
 use crate::explain::cause_of;
 use crate::fault::{RunFault, Which, answer_status, is_of_second};
@@ -51,9 +49,8 @@ impl<I: Inputs, P, W: Sink + LastError, E: Sink> Session<'_, '_, '_, '_, I, P, W
     /// true, otherwise by `names`.
     pub(crate) fn perform_same(&mut self, a: &str, b: &str, map: bool, names: Names) -> u8
         ensures same { IsSame self.old self.new }
-        ensures performed { PerformsTwo I.opener E.writer self.old.explain
-            (RunsTwo (kept_reader I.Opened.reader) (kept_reader I.Opened.reader) W.writer map names)
-            a.now b.now result (world_of self.old) (world_of self.new) }
+        ensures performed { PerformsTwo I.opener I.Opened.reader W.writer E.writer self.old.explain
+            map names a.now b.now result (world_of self.old) (world_of self.new) }
     {
         let (alloc, explain) = (self.alloc, self.explain);
         let first = match open_named(self.inputs, a) {
@@ -62,14 +59,9 @@ impl<I: Inputs, P, W: Sink + LastError, E: Sink> Session<'_, '_, '_, '_, I, P, W
         };
         let second = match open_named(self.inputs, b) {
             Ok(second) => second,
-            Err(error) => return tell_unopened(
-                alloc,
-                Which::Second,
-                error,
-                b,
-                explain,
-                self.errors,
-            ),
+            Err(error) => {
+                return tell_unopened(alloc, Which::Second, error, b, explain, self.errors);
+            }
         };
         let mut first = Kept::new(alloc, first, explain);
         let mut second = Kept::new(alloc, second, explain);

@@ -1,13 +1,13 @@
 //! How the inputs of a job are opened, and how a text takes the place of one.
 
 ghost use Rattle.std.specs.Prelude.{◌≡◌, MatchResult};
-ghost use Rattle.gf_run.specs.Kept.{bytes_kept, kept_at_first, source_of};
+ghost use Rattle.gf_run.specs.Wrapped.{bytes_kept, kept_at_first, source_of};
 ghost use Rattle.gf_run.specs.Opening.{IsNotOpened, IsOpened, Opener, Opens};
 
 use crate::streams::kept::Kept;
 use crate::streams::last_error::LastError;
 use crate::streams::source::Source;
-use gf_nfg::TextAndPayoffs;
+use gf_nfg::TextPieces;
 use gf_words::Input;
 use std::alloc::Global;
 use std::io;
@@ -38,7 +38,7 @@ pub trait Inputs {
         ensures { opener.file self.old name.now result self.new };
 
     /// Puts a text in the place of the file of this name. After an error the file is as it was.
-    fn replace(&mut self, name: &str, text: TextAndPayoffs) -> Result<(), Unreplaced>
+    fn replace(&mut self, name: &str, text: TextPieces) -> Result<(), Unreplaced>
         ensures { opener.replaced self.old name.now text.rest result self.new };
 }
 
@@ -77,8 +77,5 @@ pub fn open_kept<I: Inputs>(
         × (bytes_kept kept ≡ kept_at_first keeps))
         (λ _. IsNotOpened I.opener input.now inputs.old inputs.new) }
 {
-    match open_input(inputs, input) {
-        Ok(opened) => Ok(Kept::new(alloc, opened, keeps)),
-        Err(error) => Err(error),
-    }
+    Ok(Kept::new(alloc, open_input(inputs, input)?, keeps))
 }

@@ -1,11 +1,11 @@
 //! The inputs of the program: standard input, and files.
 
-ghost use Rattle.gf_run.specs.Opened.{host_opener, remaining_of};
+ghost use Rattle.gf_run.specs.Wrapped.{host_opener, remaining_of};
 
 use crate::opening::inputs::{Inputs, Unreplaced};
 use crate::opening::replaced::replace;
 use crate::streams::counted::Counted;
-use gf_nfg::TextAndPayoffs;
+use gf_nfg::TextPieces;
 use std::fs::File;
 use std::io::{Read, Stdin};
 use std::{fs, io};
@@ -54,7 +54,7 @@ impl Inputs for HostInputs<'_> {
         Ok(Counted::new(Opened::File(fs::open(self.rt, name)?)))
     }
 
-    fn replace(&mut self, name: &str, text: TextAndPayoffs) -> Result<(), Unreplaced> {
+    fn replace(&mut self, name: &str, text: TextPieces) -> Result<(), Unreplaced> {
         replace(self.rt, name, text)
     }
 }

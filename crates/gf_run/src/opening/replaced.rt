@@ -5,7 +5,7 @@ use crate::opening::inputs::Unreplaced;
 use crate::streams::counted::Counted;
 use crate::streams::last_error::LastError;
 use crate::texts::answer::push_text;
-use gf_nfg::TextAndPayoffs;
+use gf_nfg::TextPieces;
 use std::alloc::AllocError;
 use std::fs::{File, Permissions};
 use std::io::ErrorKind;
@@ -51,35 +51,21 @@ fn new_file_beside(rt: &HostRuntime, path: &str) -> Result<NewFile, Unreplaced> 
 }
 
 /// Gives a new file its permissions and its text.
-fn fill(file: File, permissions: Permissions, text: TextAndPayoffs) -> Result<(), io::Error> {
+fn fill(file: File, permissions: Permissions, text: TextPieces) -> Result<(), io::Error> {
     file.set_permissions(permissions)?;
     let mut output = Counted::new(file);
     match push_text(&mut output, text) {
         Ok(()) => Ok(()),
-        Err(_) => match output.last_error() {
-            Some(error) => Err(error),
-            None => Err(io::Error::from(ErrorKind::WriteZero)),
-        },
-    }
-}
-
-/// Removes a new file after this error.
-fn given_up(rt: &HostRuntime, new: &str, error: io::Error) -> Unreplaced {
-    let _ = fs::remove_file(rt, new);
-    Unreplaced::from(error)
-}
-
-/// Gives a new file the name of another, which it replaces.
-fn take_place(rt: &HostRuntime, new: &str, path: &str) -> Result<(), Unreplaced> {
-    match fs::rename(rt, new, path) {
-        Ok(()) => Ok(()),
-        Err(error) => Err(given_up(rt, new, error)),
+        Err(_) => {
+            let none = io::Error::from(ErrorKind::WriteZero);
+            Err(output.last_error().unwrap_or(none))
+        }
     }
 }
 
 /// Puts a text in the place of the file of this name, through links, and with its permissions.
 /// Only a file can be replaced, no pipe or device.
-pub fn replace(rt: &HostRuntime, name: &str, text: TextAndPayoffs) -> Result<(), Unreplaced> {
+pub fn replace(rt: &HostRuntime, name: &str, text: TextPieces) -> Result<(), Unreplaced> {
     let path = fs::canonicalize(rt, name)?.into_string();
     let path = path.as_str();
     let found = fs::metadata(rt, path)?;
@@ -87,8 +73,11 @@ pub fn replace(rt: &HostRuntime, name: &str, text: TextAndPayoffs) -> Result<(),
         return Err(Unreplaced::System(io::Error::from(ErrorKind::InvalidInput)));
     }
     let NewFile { path: new, file } = new_file_beside(rt, path)?;
-    match fill(file, found.permissions(), text) {
-        Ok(()) => take_place(rt, new.as_str(), path),
-        Err(error) => Err(given_up(rt, new.as_str(), error)),
+    let new = new.as_str();
+    let done = fill(file, found.permissions(), text).and_then(|()| fs::rename(rt, new, path));
+    if let Err(error) = done {
+        let _ = fs::remove_file(rt, new);
+        return Err(Unreplaced::from(error));
     }
+    Ok(())
 }

@@ -1,8 +1,8 @@
 //! A reader or a writer with a count of its failures.
 
 ghost use Rattle.std.specs.Prelude.{◌≡◌, None, refl};
-ghost use Rattle.gf_run.specs.Counted.{counted_reader, counted_writer};
-ghost use Rattle.gf_run.specs.Counted.{failures_of, inner_of, last_of};
+ghost use Rattle.gf_run.specs.Streams.{CountsPull, CountsPush};
+ghost use Rattle.gf_run.specs.Wrapped.{counting, failures_of, inner_of, last_of};
 
 use crate::streams::last_error::LastError;
 use crate::streams::sink::Sink;
@@ -55,7 +55,7 @@ impl<W: Write> Write for Counted<W> {
 }
 
 impl<R: Read> Source for Counted<R> {
-    ghost reader = { counted_reader R.remaining };
+    ghost reader = { counting R.remaining CountsPull };
 
     fn pull(&mut self, to: &mut [u8]) -> Result<usize, io::Error> {
         let answer = self.inner.read(to);
@@ -74,7 +74,7 @@ impl<R: Read> Source for Counted<R> {
 }
 
 impl<W: Write> Sink for Counted<W> {
-    ghost writer = { counted_writer W.contents };
+    ghost writer = { counting W.contents CountsPush };
 
     fn push(&mut self, from: &[u8]) -> Result<usize, io::Error> {
         let answer = self.inner.write(from);

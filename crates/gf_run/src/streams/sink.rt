@@ -1,12 +1,10 @@
 //! Writers that count their failures, and how an output is written whole.
 
-ghost use Rattle.std.specs.Prelude.{◌≡◌, ◌<◌, ◌≤◌, MatchResult, OnErr, OnOk};
+ghost use Rattle.std.specs.Prelude.{◌≡◌, ◌++◌, ◌<◌, ◌≤◌, List, ℕ, MatchResult, OnErr, OnOk};
 ghost use Rattle.std.specs.Io.{WritesAtMost};
 ghost use Rattle.std.specs.Io.KnownBytes.{WriteAppends};
-ghost use Rattle.gf_run.specs.Failures.{CountsPush, HasRisen};
-ghost use Rattle.gf_run.specs.Output.{IsOffer, IsWriteFault, IsWritten, Stops};
-ghost use Rattle.gf_run.specs.Streams.{Writer};
-ghost use Rattle.gf_run.specs.Turns.{Moves};
+ghost use Rattle.gf_run.specs.Streams.{CountsPush, HasRisen, Moves, Stream};
+ghost use Rattle.gf_run.specs.Transfers.{IsBegun, IsOffer, IsWriteFault, IsWritten, Stops};
 
 use crate::fault::WriteFault;
 use crate::streams::turns::{PATIENCE, is_interruption};
@@ -16,13 +14,13 @@ use std::io::Write;
 /// A writer that counts the errors that it returns and the pushes that take nothing.
 pub trait Sink: Write {
     /// The bytes that it holds, its failures so far, and what a push gives.
-    ghost writer: { Writer Self };
+    ghost writer: { Stream Self };
 
     /// Does what `write` does.
     fn push(&mut self, from: &[u8]) -> Result<usize, io::Error>
         ensures bound { WritesAtMost result from.now }
         ensures bytes { WriteAppends
-            (writer.contents self.old) (writer.contents self.new) result from.now }
+            (writer.known self.old) (writer.known self.new) result from.now }
         ensures given { writer.gives self.old from.now result self.new }
         ensures counted { CountsPush (writer.count self.old) result (writer.count self.new) };
 
@@ -31,7 +29,7 @@ pub trait Sink: Write {
         ensures { result ≡ writer.count self.now };
 
     /// It holds what `write` has written.
-    ghost writes: { (s : Self) → writer.contents s ≡ Self.contents s };
+    ghost writes: { (s : Self) → writer.known s ≡ Self.contents s };
 }
 
 /// A push that is repeated after an interruption. The sixteenth interruption in a row is a write
@@ -39,10 +37,10 @@ pub trait Sink: Write {
 fn push_again<W: Sink>(output: &mut W, from: &[u8]) -> Result<usize, WriteFault>
     ensures bound { WritesAtMost result from.now }
     ensures bytes { WriteAppends
-        (W.writer.contents output.old) (W.writer.contents output.new) result from.now }
+        (W.writer.known output.old) (W.writer.known output.new) result from.now }
     ensures turn { MatchResult result
         (λ n. (0 < n) × Moves W.writer.gives (IsOffer from.now) from.now n output.old output.new)
-        (λ _. Stops W.writer.gives (IsOffer from.now) output.old output.new) }
+        (λ _. Stops W.writer (IsOffer from.now) output.old output.new) }
     ensures counted { MatchResult result
         (λ _. W.writer.count output.old ≤ W.writer.count output.new)
         (λ _. HasRisen (W.writer.count output.old) (W.writer.count output.new)) }
@@ -61,13 +59,15 @@ fn push_again<W: Sink>(output: &mut W, from: &[u8]) -> Result<usize, WriteFault>
     Err(WriteFault)
 }
 
-/// Writes all of `text`. If the writer fails, a prefix of it has been written.
+/// Writes all of `text`, which may be the next part of a longer one. If the writer fails, a prefix of
+/// it has been written.
 pub fn push_all<W: Sink>(output: &mut W, text: &[u8]) -> Result<(), WriteFault>
-    ensures all { OnOk result
-        (IsWritten W.writer output.old output.new text.now) }
-    ensures grown { OnOk result (W.writer.count output.old ≤ W.writer.count output.new) }
-    ensures part { OnErr result
-        (IsWriteFault W.writer output.old output.new text.now) }
+    ensures all { OnOk result (IsWritten W.writer output.old output.new text.now) }
+    ensures part { OnErr result (IsWriteFault W.writer output.old output.new text.now) }
+    ensures next { (start : W) (whole after : List ℕ)
+        → IsBegun W.writer start output.old whole (text.now ++ after) → MatchResult result
+        (λ _. IsBegun W.writer start output.new whole after)
+        (λ _. IsWriteFault W.writer start output.new whole) }
 {
     let mut rest = text;
     while !rest.is_empty() {

@@ -3,13 +3,11 @@
 ghost use Rattle.std.specs.Prelude.{◌≡◌, ◌+◌, ◌<◌, ◌≤◌, length, MatchResult, IfOk, IfErr};
 ghost use Rattle.std.specs.Io.{ReadsAtMost};
 ghost use Rattle.std.specs.Io.KnownBytes.{ReadConsumes};
-ghost use Rattle.gf_run.specs.Failures.{CountsPull, HasRisen};
-ghost use Rattle.gf_run.specs.Input.{HasLength, IsNotRead, IsReadWhole, limit, too_long};
+ghost use Rattle.gf_run.specs.Streams.{CountsPull, GivesUp, HasRisen, Moves, Stream};
+ghost use Rattle.gf_run.specs.Transfers.{HasLength, IsNotRead, IsReadWhole, limit, too_long};
 ghost use Rattle.gf_run.specs.declared.streams.source.TheConstants.{CHUNK};
-ghost use Rattle.gf_run.specs.Streams.{Reader};
-ghost use Rattle.gf_run.specs.Turns.{GivesUp, Moves};
 
-use crate::fault::{RunFault, Which};
+use crate::fault::{RunFault, Which, refusal};
 use crate::streams::turns::{PATIENCE, is_interruption};
 use gf_token::{Fault, Why};
 use std::alloc::Global;
@@ -25,13 +23,12 @@ const CHUNK: usize = 65_536;
 /// A reader that counts the errors that it returns.
 pub trait Source: Read {
     /// The bytes that it has left, its failures so far, and what a pull gives.
-    ghost reader: { Reader Self };
+    ghost reader: { Stream Self };
 
     /// Does what `read` does.
     fn pull(&mut self, to: &mut [u8]) -> Result<usize, io::Error>
         ensures bound { ReadsAtMost result to.new }
-        ensures bytes { ReadConsumes
-            (reader.remaining self.old) (reader.remaining self.new) result to.new }
+        ensures bytes { ReadConsumes (reader.known self.old) (reader.known self.new) result to.new }
         ensures given { reader.gives self.old to.new result self.new }
         ensures counted { CountsPull (reader.count self.old) result (reader.count self.new) };
 
@@ -40,7 +37,7 @@ pub trait Source: Read {
         ensures { result ≡ reader.count self.now };
 
     /// It has left what `read` has left.
-    ghost reads: { (s : Self) → reader.remaining s ≡ Self.remaining s };
+    ghost reads: { (s : Self) → reader.known s ≡ Self.remaining s };
 }
 
 /// A pull that is repeated after an interruption. The sixteenth interruption in a row is a read
@@ -48,7 +45,7 @@ pub trait Source: Read {
 fn pull_again<R: Source>(input: &mut R, to: &mut [u8], which: Which) -> Result<usize, RunFault>
     ensures bound { ReadsAtMost result to.new }
     ensures bytes { ReadConsumes
-        (R.reader.remaining input.old) (R.reader.remaining input.new) result to.new }
+        (R.reader.known input.old) (R.reader.known input.new) result to.new }
     ensures turn { MatchResult result
         (λ n. Moves R.reader.gives (HasLength (length to.old)) to.new n input.old input.new)
         (λ fault. (fault ≡ RunFault.Read which)
@@ -74,10 +71,7 @@ fn pull_again<R: Source>(input: &mut R, to: &mut [u8], which: Which) -> Result<u
 fn too_long(which: Which) -> RunFault
     ensures { result ≡ RunFault.Refused which too_long }
 {
-    RunFault::Refused {
-        which,
-        fault: Fault::at_end(LIMIT, Why::TooLong),
-    }
+    refusal(which, Fault::at_end(LIMIT, Why::TooLong))
 }
 
 /// How many bytes are asked for after this many: no more than one past the limit.
@@ -98,10 +92,8 @@ fn room_after(len: usize) -> usize
 /// - `Read`: the reader failed, or was interrupted sixteen times in a row.
 /// - `Memory`: memory ran out.
 pub fn load<R: Source>(alloc: Global, input: &mut R, which: Which) -> Result<Vec<u8>, RunFault>
-    ensures whole { IfOk result (λ bytes.
-        IsReadWhole R.reader input.old input.new bytes.items) }
-    ensures part { IfErr result (λ fault.
-        IsNotRead R.reader which fault input.old input.new) }
+    ensures whole { IfOk result (λ bytes. IsReadWhole R.reader input.old input.new bytes.items) }
+    ensures part { IfErr result (λ fault. IsNotRead R.reader which fault input.old input.new) }
 {
     let mut bytes = Vec::new(alloc);
     let mut buffer = [0; CHUNK];

@@ -2,7 +2,6 @@
 
 ghost use Rattle.std.specs.Prelude.{◌≡◌, ◌↔◌, IsTrue};
 ghost use Rattle.std.specs.IoError.{error_kind};
-ghost use Rattle.std.specs.declared.io.ErrorKind.TheVariants.{Interrupted};
 
 use std::io;
 use std::io::ErrorKind;
@@ -12,7 +11,7 @@ pub const PATIENCE: u32 = 16;
 
 /// Whether the request that this error answers is repeated.
 pub fn is_interruption(error: &io::Error) -> bool
-    ensures { IsTrue result ↔ (error_kind error.now ≡ Interrupted) }
+    ensures { IsTrue result ↔ (error_kind error.now ≡ ErrorKind.Interrupted) }
 {
     error.kind() == ErrorKind::Interrupted
 }

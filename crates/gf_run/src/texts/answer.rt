@@ -1,34 +1,33 @@
 //! The answer about the bytes of inputs, and how its text is written.
 
 ghost use Rattle.std.specs.Prelude.{◌≡◌, Err, MatchResult, OnErr, OnOk};
-ghost use Rattle.gf_run.specs.Output.{IsWriteFault, IsWritten};
+ghost use Rattle.gf_run.specs.Transfers.{IsWriteFault, IsWritten};
 ghost use Rattle.gf_run.specs.Run.{Writes};
 
 use crate::fault::{RunFault, WriteFault};
 use crate::streams::sink::{Sink, push_all};
-use gf_nfg::{TextAndPayoffs, TextPieces};
-use std::alloc::Global;
+use gf_nfg::TextPieces;
 
 /// The answer about the bytes of inputs, and what is written about it.
 #[derive(Drop)]
 pub struct Answer<A> {
     pub value: A,
-    pub text: TextAndPayoffs,
+    pub text: TextPieces,
 }
 
 /// An answer with a text that is whole.
-pub fn answer_with<A>(alloc: Global, value: A, text: Vec<u8>) -> Answer<A>
+pub fn answer_with<A>(value: A, text: Vec<u8>) -> Answer<A>
     ensures value { result.value ≡ value }
     ensures text { result.text.rest ≡ text.items }
 {
     Answer {
         value,
-        text: TextAndPayoffs::of(alloc, TextPieces::of(text)),
+        text: TextPieces::of(text),
     }
 }
 
 /// Writes a text piece by piece. If the writer fails, a prefix of it has been written.
-pub fn push_text<W: Sink>(output: &mut W, mut text: TextAndPayoffs) -> Result<(), WriteFault>
+pub fn push_text<W: Sink>(output: &mut W, mut text: TextPieces) -> Result<(), WriteFault>
     ensures all { OnOk result (IsWritten W.writer output.old output.new text.rest) }
     ensures part { OnErr result (IsWriteFault W.writer output.old output.new text.rest) }
 {

@@ -3,7 +3,7 @@
 ghost use Rattle.std.specs.Prelude.{◌≡◌, MatchResult};
 ghost use Rattle.gf_canon.specs.GameFile.{SameFile};
 ghost use Rattle.gf_canon.specs.SameBy.{SameBy};
-ghost use Rattle.gf_run.specs.NoAnswer.{IsFaultOfFiles};
+ghost use Rattle.gf_run.specs.FormText.{IsFaultOfFiles};
 ghost use Rattle.gf_run.specs.Run.{IsAnswerBy};
 ghost use Rattle.gf_run.specs.SameText.{IsAnswer, IsLine, IsLineAndMap, answer_line};
 
@@ -54,7 +54,7 @@ fn compare_with_map(alloc: Global, a: &[u8], b: &[u8]) -> Result<Answer<bool>, R
     };
     let same = pairs_of_files(alloc, a, b, &mut lines)?;
     let text = joined(alloc, &[answer_line(same), lines.text.as_slice()])?;
-    Ok(answer_with(alloc, same, text))
+    Ok(answer_with(same, text))
 }
 
 /// Whether two files are the same, with names or without.
@@ -67,7 +67,7 @@ fn compare(alloc: Global, a: &[u8], b: &[u8], names: Names) -> Result<Answer<boo
 {
     let same = same_by(alloc, a, b, names)?;
     let text = Vec::from_slice(alloc, answer_line(same))?;
-    Ok(answer_with(alloc, same, text))
+    Ok(answer_with(same, text))
 }
 
 /// Whether two files are the same: with their renumbering if `map` is true, otherwise by `names`.

@@ -5,12 +5,12 @@ ghost use Rattle.std.specs.Prelude.{◌≡◌, ◌↔◌, MatchResult, IsTrue};
 ghost use Rattle.gf_canon.specs.KindOfFile.{MeansFileOf};
 ghost use Rattle.gf_canon.specs.NamesAside.{IsTextBy};
 ghost use Rattle.gf_run.specs.LineText.{AreCanonical, kind_line};
-ghost use Rattle.gf_run.specs.NoAnswer.{IsRefusal};
+ghost use Rattle.gf_run.specs.FormText.{IsRefusal};
 
 use crate::fault::{RunFault, refused};
 use crate::texts::answer::Answer;
 use gf_canon::{FileKind, Names, canonical_text, check};
-use gf_nfg::TextAndPayoffs;
+use gf_nfg::TextPieces;
 use std::alloc::Global;
 
 /// The canonical text of a file, with names or without.
@@ -19,16 +19,13 @@ pub fn canon(alloc: Global, bytes: &[u8], names: Names) -> Result<Answer<()>, Ru
         (λ answer. IsTextBy names bytes.now answer.text.rest) (IsRefusal bytes.now) }
 {
     match canonical_text(alloc, bytes, names) {
-        Ok(text) => Ok(Answer {
-            value: (),
-            text: TextAndPayoffs::of(alloc, text),
-        }),
+        Ok(text) => Ok(Answer { value: (), text }),
         Err(fault) => Err(refused(fault)),
     }
 }
 
 /// Whether these bytes are a text, which is made piece by piece up to the first that differs.
-fn are_text(bytes: &[u8], mut text: TextAndPayoffs) -> bool
+fn are_text(bytes: &[u8], mut text: TextPieces) -> bool
     ensures { IsTrue result ↔ (bytes.now ≡ text.rest) }
 {
     let mut rest = bytes;
@@ -53,10 +50,7 @@ pub fn are_canonical(alloc: Global, bytes: &[u8], names: Names) -> Result<bool, 
 pub fn kind_of(alloc: Global, bytes: &[u8]) -> Result<FileKind, RunFault>
     ensures { MatchResult result (MeansFileOf bytes.now) (IsRefusal bytes.now) }
 {
-    match check(alloc, bytes) {
-        Ok(kind) => Ok(kind),
-        Err(fault) => Err(refused(fault)),
-    }
+    check(alloc, bytes).map_err(refused)
 }
 
 /// The line that says what a file of this kind holds.

@@ -2,8 +2,8 @@
 
 ghost use Rattle.std.specs.Prelude.{◌≡◌, ◌++◌, OnOk};
 ghost use Rattle.std.specs.List.{flat_map, list_any};
-ghost use Rattle.gf_run.specs.NameText.{byte_text, end_text, is_escaped, mark, name_line};
-ghost use Rattle.gf_run.specs.NameText.{name_text};
+ghost use Rattle.gf_run.specs.LineText.{byte_text, end_text, is_escaped, mark, name_line};
+ghost use Rattle.gf_run.specs.LineText.{name_text};
 
 use gf_words::LineEnd;
 use std::alloc::AllocError;

@@ -1,32 +1,24 @@
 //! What is written about a fault: its line on standard error.
 
 ghost use Rattle.std.specs.Prelude.{◌≡◌, ◌≤◌, length, OnOk, OnErr};
-ghost use Rattle.gf_run.specs.Faults.{fault_line, fault_prefix, prefix_of, short_line};
-ghost use Rattle.gf_run.specs.Output.{IsWriteFault, IsWritten};
+ghost use Rattle.gf_run.specs.Faults.{fault_line, fault_prefix, short_line};
+ghost use Rattle.gf_run.specs.Transfers.{IsWriteFault, IsWritten};
 
 use crate::fault::{RunFault, Which, WriteFault};
 use crate::streams::sink::{Sink, push_all};
 use gf_explain::{Line, form_line, refusal_line};
 
-/// What a line about an input begins with.
-fn label(which: Which) -> &'static [u8]
-    ensures text { result.now ≡ prefix_of which }
-    ensures short { length result.now ≤ 3 }
-{
-    match which {
-        Which::Only => b"",
-        Which::First => b"A: ",
-        Which::Second => b"B: ",
-    }
-}
-
-/// What the line of a fault begins with.
+/// What the line of a fault begins with: the input, if it is one of two.
 fn prefix_of(fault: &RunFault) -> &'static [u8]
     ensures text { result.now ≡ fault_prefix fault.now }
     ensures short { length result.now ≤ 3 }
 {
     match fault {
-        RunFault::Refused { which, .. } | RunFault::Read(which) => label(*which),
+        RunFault::Refused { which, .. } | RunFault::Read(which) => match which {
+            Which::Only => b"",
+            Which::First => b"A: ",
+            Which::Second => b"B: ",
+        },
         RunFault::Write | RunFault::Form(_) | RunFault::Memory => b"",
     }
 }
@@ -67,8 +59,7 @@ pub(crate) fn line_of(fault: &RunFault) -> Line
 /// `WriteFault` if the writer failed, was interrupted sixteen times in a row, or took nothing. A
 /// prefix of the line has been written then.
 pub fn write_fault<W: Sink>(fault: &RunFault, output: &mut W) -> Result<(), WriteFault>
-    ensures all { OnOk result
-        (IsWritten W.writer output.old output.new (fault_line fault.now)) }
+    ensures all { OnOk result (IsWritten W.writer output.old output.new (fault_line fault.now)) }
     ensures part { OnErr result (IsWriteFault W.writer output.old output.new (fault_line fault.now)) }
 {
     push_all(output, line_of(fault).as_slice())

@@ -2,9 +2,9 @@
 
 ghost use Rattle.std.specs.Prelude.{◌≤◌, MatchResult, length};
 ghost use Rattle.gf_canon.specs.MeaningOf.{file_of};
-ghost use Rattle.gf_run.specs.FormText.{FileHasFewPlayers, IsFormFault, IsFormText, IsTableOfFile};
-ghost use Rattle.gf_run.specs.Input.{limit};
-ghost use Rattle.gf_run.specs.NoAnswer.{IsFaultOfBytes};
+ghost use Rattle.gf_run.specs.FormText.{FileHasFewPlayers, IsFaultOfBytes, IsFileWithoutForm, IsFormText};
+ghost use Rattle.gf_run.specs.FormText.{IsTableOfFile};
+ghost use Rattle.gf_run.specs.Transfers.{limit};
 
 use crate::fault::{RunFault, refused};
 use crate::texts::answer::Answer;
@@ -18,7 +18,7 @@ fn table_of(alloc: Global, meaning: Meaning<'_>, strategies: Strategies) -> Resu
     requires { FileHasFewPlayers (file_of meaning) }
     ensures { MatchResult result
         (λ t. IsTableOfFile strategies (file_of meaning.entry) t)
-        (IsFormFault strategies (file_of meaning.entry)) }
+        (IsFileWithoutForm strategies (file_of meaning.entry)) }
 {
     match meaning {
         Meaning::Tree(game) => form_by(alloc, &game, strategies),

@@ -6,7 +6,8 @@ ghost use Rattle.gf_tree.specs.Actions.{action_of, actions_of};
 use gf_fraction::Fraction;
 use gf_token::Label;
 
-/// An action of an information set: its label, and its probability if chance moves.
+/// An action of an information set: its label, and its probability if chance moves. They lie together,
+/// though most actions have no probability, since the actions of a set are returned as one slice.
 #[derive(Clone, Copy, PartialEq, Eq)]
 pub struct Action<'a> {
     pub label: Label<'a>,

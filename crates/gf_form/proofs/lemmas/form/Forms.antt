@@ -1,24 +1,19 @@
 -- What makes a table a form of a game: its labels, and rows of payoffs that are right at its
 -- profiles.
 use Rattle.gf_form.proofs.Common
-use Common.{length-numbers_from, slice_get-get_or, take-append_seam, IsStrategicForm, PaysFractions}
-use Common.{flat_map-append, length-profiles, strategy_labels, AllByRecursion, IsFirstWithout, Game}
-use Common.{full_profiles, length-append, profile_limit, strategies_at, ArePayoffsAt, one_fraction}
-use Common.{AllZip-long, IfOk-weaker, all_of_each, at_position, mapped_from, ArePayoffs, IsFormWith}
-use Common.{IsFraction, all_images, append-nil, choices_by, length-map, players_of, AreRowsAt, List}
-use Common.{IsTableOf, map_twice, slice_get, Contains, all_both, contains, flat_map, profiles, Some}
-use Common.{take-suc, IsEqual, IsTable, add-one, has_map, product, AllZip, IsGame, SetKey, get_or}
-use Common.{length, payoff, Ratio, Table, arith, subst, drop, each, refl, take, zero, ◌++◌, Has, []}
-use Common.{has, inl, inr, map, suc, sym, ◌*◌, ◌+◌, ◌-◌, ◌<◌, ◌↔◌, ◌∙◌, ◌∷◌, ◌≡◌, ◌≤◌, ap, ℕ}
-use Rattle.gf_nfg.specs.Table.{Entry, rows}
-use Rattle.gf_form.specs.StrategicForm.{PaysFraction}
-use Rattle.gf_form.proofs.lemmas.strategies.CountedActions.{some_strategy, as_many_players}
+use Common.{length-numbers_from, append_cancel_left, slice_get-get_or, take-append_seam, ArePayoffs}
+use Common.{IsStrategicForm, all_zipped_more, flat_map-append, length-profiles, strategy_labels, []}
+use Common.{AllByRecursion, IsFirstWithout, PaysFractions, full_profiles, length-append, IsFormWith}
+use Common.{profile_limit, strategies_at, ArePayoffsAt, PaysFraction, one_fraction, AllZip-long, ap}
+use Common.{IfOk-weaker, all_of_each, at_position, mapped_from, IsFraction, all_images, all_joined}
+use Common.{append-nil, choices_by, length-map, players_of, AreRowsAt, IsTableOf, map_twice, AllZip}
+use Common.{slice_get, take_more, Contains, all_both, contains, flat_map, profiles, take-suc, Entry}
+use Common.{IsEqual, IsTable, add-one, has_map, product, suc-mul, IsGame, SetKey, get_or, length, ℕ}
+use Common.{payoff, Ratio, Table, arith, subst, Game, List, Some, drop, each, refl, rows, take, Has}
+use Common.{zero, ◌++◌, has, inl, inr, map, suc, sym, ◌*◌, ◌+◌, ◌<◌, ◌↔◌, ◌∙◌, ◌∷◌, ◌≡◌, ◌≤◌}
+use Rattle.gf_form.proofs.lemmas.strategies.CountedActions.{as_many_players, some_strategy}
 use Rattle.gf_form.proofs.lemmas.strategies.Lookups.{all_mapped, all_right}
 use Rattle.gf_form.specs.inner.rows.FitsTable.{FitsTable}
-use Rattle.std.proofs.Math.Nat.{suc-mul}
-use Rattle.std.proofs.lemmas.List.{append_cancel_left, take_more}
-use Rattle.std.proofs.lemmas.Slice.Zip.{all_zipped_more}
-use Rattle.gf_fraction.proofs.Offered.{all_joined}
 
 pub as_many : {A B : Type 0} (R : A → B → Type 0) (xs : List A) (ys : List B) → AllZip R xs ys
     → length xs ≡ length ys

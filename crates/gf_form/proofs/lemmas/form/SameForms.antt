@@ -1,34 +1,30 @@
 -- Games that are the same have the same payoffs, bottom-up values and forms, by pure and by reduced
 -- strategies, and none for the same reason. The worked forms.
 use Rattle.gf_form.proofs.Common
-use Common.{carried_is_renumbered, AreReducedPayoffsAt, ReducedOverflowsAt, lowest_of-fraction, Has}
-use Common.{reduced_strategies, same_set_equality, HasReducedValues, IsStrategicForm, IsReducedForm}
-use Common.{renumbered_node, strategy_labels, AllByRecursion, InformationSet, IsFirstWithout, Ratio}
-use Common.{reduced_labels, renumbered_set, strategy_label, whole_fraction, IsRenumbering, Contains}
-use Common.{filter_of_map, full_profiles, if◌then◌else◌, reduced_label, strategies_at, ArePayoffsAt}
-use Common.{contradicted, IsSpellable, Renumbering, all_of_each, is_relevant, overflowing, IsPaidAt}
-use Common.{player_keys, player_sets, same_choice, IsFormWith, IsFraction, choices_by, first_uses}
-use Common.{players_of, reduced_at, reduced_by, renumbered, same_tests, sets_apart, strategies, inl}
-use Common.{Described, HasValues, balancing, choice_at, map_twice, pointwise, positions, used_sets}
-use Common.{SameGame, comes_to, list_any, map_same, profiles, same_set, unlikely, IsEqual, IsValue}
-use Common.{flatten, reduced, AllZip, IsGame, SetKey, ending, get_or, length, nat_lt, payoff, Table}
-use Common.{arith, codes, plays, subst, whole, Bool, Game, List, Node, None, Some, Step, held, refl}
-use Common.{true, ◌*ℤ◌, ◌++◌, ◌||◌, inr, map, pos, zip, ◌+◌, ◌<◌, ◌↔◌, ◌∙◌, ◌∷◌, ◌≡◌, [], ap, ℕ}
-use Rattle.std.proofs.Math.Path.{subst₂, transport, transport⁻¹}
-use Rattle.gf_tree.specs.PrefixOrder.{Listed}
-use Rattle.gf_tree.proofs.Offered.{entry_used, set_at_image, outcome_at_image, spelled_is_spellable}
-use Rattle.gf_tree.proofs.Offered.{game_read, meant, ok_game}
-use Rattle.gf_form.proofs.lemmas.values.Plays.{IsAlike, AreAlike, same_payoff, value_alike, OnPlay}
-use Rattle.gf_form.proofs.lemmas.values.Plays.{OnSteps, carried_step, on_plays, plays_carried}
+use Common.{carried_is_renumbered, spelled_is_spellable, AreReducedPayoffsAt, ReducedOverflowsAt, ℕ}
+use Common.{lowest_of-fraction, reduced_strategies, same_set_equality, HasReducedValues, IsFormWith}
+use Common.{outcome_at_image, IsStrategicForm, renumbered_node, strategy_labels, AllByRecursion, []}
+use Common.{InformationSet, IsFirstWithout, renumbered_set, strategy_label, whole_fraction, IsEqual}
+use Common.{IsReducedForm, IsRenumbering, filter_of_map, full_profiles, if◌then◌else◌, ArePayoffsAt}
+use Common.{part_fraction, strategies_at, contradicted, set_at_image, IsSpellable, OverflowsAt, Has}
+use Common.{Renumbering, all_of_each, is_relevant, overflowing, player_keys, player_sets, Described}
+use Common.{same_choice, transport⁻¹, IsFraction, choices_by, entry_used, first_uses, players_of}
+use Common.{reduced_at, reduced_by, renumbered, same_tests, sets_apart, strategies, HasValues, Bool}
+use Common.{balancing, choice_at, game_read, map_twice, pointwise, positions, transport, used_sets}
+use Common.{Contains, IsPaidAt, SameGame, comes_to, list_any, map_same, profiles, same_set, IsValue}
+use Common.{unlikely, flatten, ok_game, reduced, AllZip, IsGame, Listed, SetKey, ending, get_or, ap}
+use Common.{length, nat_lt, payoff, subst₂, Ratio, Table, arith, codes, meant, plays, subst, whole}
+use Common.{Game, List, Node, None, Some, Step, held, refl, true, ◌*ℤ◌, ◌++◌, inl, inr, map, pos}
+use Common.{zip, ◌+◌, ◌<◌, ◌↔◌, ◌∙◌, ◌∷◌, ◌≡◌}
+use Rattle.gf_form.proofs.lemmas.values.Plays.{plays_carried, carried_step, same_payoff, AreAlike}
+use Rattle.gf_form.proofs.lemmas.values.Plays.{value_alike, on_plays, IsAlike, OnSteps, OnPlay}
 use Rattle.gf_form.proofs.lemmas.strategies.Lookups.{own_set}
-use Rattle.gf_form.specs.Refusal.{OverflowsAt}
 use Rattle.std.specs.Fmt.{digits}
-use Rattle.gf_fraction.specs.Offered.{gcd_within, lowest_of, number_of, sum_of, product_of}
-use Rattle.gf_token.specs.Offered.{index_of, lex, Gap}
-use Rattle.gf_tree.specs.Offered.{nothing, run, Format}
-use Rattle.gf_fraction.proofs.Offered.{part_fraction}
+use Rattle.gf_fraction.specs.Offered.{gcd_within, product_of, lowest_of, number_of, sum_of}
+use Rattle.gf_token.specs.Offered.{index_of, Gap, lex}
+use Rattle.gf_tree.specs.Offered.{nothing, Format, run}
 use Rattle.gf_tree.specs.WorkedTrees.{bonus}
-use Rattle.gf_form.specs.WorkedForms.{bonus_form, second, only, ending_form, ending_reduced}
+use Rattle.gf_form.specs.WorkedForms.{ending_reduced, ending_form, bonus_form, second, only}
 use Rattle.gf_form.proofs.lemmas.reduced.FirstStrategies.{reduced_made}
 use Rattle.gf_form.proofs.lemmas.values.ValuesComputed.{none_computed}
 
@@ -38,8 +34,7 @@ any_carried : {X Y : Type 0} (f : X → Y) (p : Y → Bool) (q : X → Bool) (P 
     → ((x : X) → P x → p (f x) ≡ q x) → (xs : List X) → AllByRecursion P xs
     → list_any p (map f xs) ≡ list_any q xs
 any_carried f p q P same [] h = refl
-any_carried f p q P same (x ∷ xs) h =
-    λ i. same x h.0 i || any_carried f p q P same xs h.1 i
+any_carried f p q P same (x ∷ xs) h = grind (arith, any_carried f p q P same xs h.1)
 
 -- a form of a game is one of another that has the same title, comment and players
 form_again : (labels : ℕ → List (List ℕ)) (R : List ℕ → List Ratio → Type 0) (g h : Game)
@@ -85,8 +80,7 @@ module _ (g : Game) (r : Renumbering) (game : IsGame g) (is : IsRenumbering g r)
       → choice_at (player_keys h player) strategy (renumbered_set r key)
       ≡ choice_at (player_keys g player) strategy key
   strategy_carried player strategy key used =
-      rw keys_carried (choice_carried (renumbered_set r) (player_keys g player) strategy key
-      (λ k i. tests_carried k key (key_used player k i) used))
+      grind (arith, keys_carried, choice_carried, tests_carried, key_used)
 
   choices_carried : (all : List (List ℕ)) (key : SetKey) → Has (used_sets g.tree) key
       → choices_by h all (renumbered_set r key) ≡ choices_by g all key
@@ -233,9 +227,8 @@ module _ (g : Game) (r : Renumbering) (game : IsGame g) (is : IsRenumbering g r)
       grind (arith, players_of, profiles, reduced_strategies_carried, reduced_values_carried)
 
   reduced_form_carried : (t : Table) → IsReducedForm g t ↔ IsReducedForm h t
-  reduced_form_carried = form_carried (reduced_labels g) (reduced_labels h) (AreReducedPayoffsAt g)
-      (AreReducedPayoffsAt h)
-      (λ i player. map reduced_label (reduced_strategies_carried player i)) reduced_right_carried
+  reduced_form_carried =
+      grind (arith, form_carried, reduced_strategies_carried, reduced_right_carried)
 
 -- ---- games that are the same
 

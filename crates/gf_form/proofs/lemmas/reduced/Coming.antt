@@ -2,30 +2,26 @@
 -- player with one strategy, who has one action at each. And strategies that agree with the same
 -- plays reduce to the same one.
 use Rattle.gf_form.proofs.Common
+use Common.{and-or_distrib_left, Any-from_list_any, eq-one_of_dvd-one, filter_map-append, all_parts}
 use Common.{same_set_equality, sets_by_first_use, list_any-append, AllByRecursion, InformationSet}
 use Common.{reduced_labels, strategy_label, action_counts, dvd-mul_right, if◌then◌else◌, HasActions}
-use Common.{is_own_choice, option_map_or, reduced_label, relevant_sets, visit_handing, AreFirstsOf}
-use Common.{HasChildren, IsSpellable, MatchOption, all_choices, descent_all, flatten_all, all_parts}
-use Common.{is_relevant, mapped_from, player_keys, cases_Bool, false≢true, get_or-map, length-map}
-use Common.{option_map, plays_from, strategies, and_parts, choice_at, from_node, is_chosen, descent}
-use Common.{of_filter, used_sets, Contains, and_from, choosing, comes_to, contains, eqb-true, Trees}
-use Common.{in_right, list_all, list_any, map_same, same_set, was_used, flatten, has_map, in_left}
-use Common.{product, reduced, stop_at, IsGame, Option, SetKey, agrees, branch, get_or, length, Bool}
-use Common.{set_at, arith, count, false, plays, subst, Game, List, Node, None, Play, Some, Step, []}
-use Common.{Stop, Tree, more, none, refl, true, ◌&&◌, ◌==◌, Has, has, inl, inr, map, suc, sym, ◌*◌}
-use Common.{◌+◌, ◌<◌, ◌∙◌, ◌∣◌, ◌∷◌, ◌≡◌, ◌≤◌, ap, ℕ}
-use Rattle.std.proofs.Math.Bool.{and-or_distrib_left}
+use Common.{is_own_choice, option_map_or, reduced_label, relevant_sets, visit_handing, dvd-mul_left}
+use Common.{AreFirstsOf, HasChildren, IsSpellable, MatchOption, all_choices, descent_all, and_parts}
+use Common.{flatten_all, is_relevant, mapped_from, player_keys, cases_Bool, false≢true, filter_map}
+use Common.{get_or-map, length-map, option_map, plays_from, strategies, choice_at, from_node, Trees}
+use Common.{is_chosen, of_filter, used_sets, Contains, and_from, choosing, comes_to, contains, Bool}
+use Common.{eqb-true, in_right, list_all, list_any, map_same, same_set, was_used, descent, flatten}
+use Common.{has_map, in_left, product, reduced, stop_at, IsGame, Option, SetKey, agrees, branch, []}
+use Common.{get_or, length, set_at, arith, count, false, plays, subst, Game, List, Node, None, Play}
+use Common.{Some, Step, Stop, Tree, more, none, refl, true, ◌&&◌, ◌==◌, Has, has, inl, inr, map, ap}
+use Common.{suc, sym, ◌*◌, ◌+◌, ◌<◌, ◌∙◌, ◌∷◌, ◌≡◌, ◌≤◌, ℕ}
 use Rattle.gf_form.proofs.lemmas.rows.Descents.{set_there}
-use Rattle.gf_form.proofs.lemmas.rows.GameDigits.{among_own, said_there}
-use Rattle.gf_form.proofs.lemmas.strategies.Lookups.{own_set, set_is, there, keys_distinct}
+use Rattle.gf_form.proofs.lemmas.rows.GameDigits.{said_there, among_own}
+use Rattle.gf_form.proofs.lemmas.strategies.Lookups.{keys_distinct, own_set, set_is, there}
 use Rattle.gf_form.proofs.lemmas.reduced.Reducing.{first_play, is_chance, own_right, any_has}
-use Rattle.std.specs.List.{filter_map}
 use Rattle.gf_form.proofs.lemmas.strategies.CountedActions.{sets_counted}
 use Rattle.gf_form.proofs.lemmas.strategies.Chosen.{his_actions}
 use Rattle.gf_form.proofs.lemmas.reduced.FirstStrategies.{reduced_shown_at, flags_fit}
-use Rattle.std.proofs.lemmas.List.Elements.{filter_map-append}
-use Rattle.std.proofs.lemmas.List.Folds.{Any-from_list_any}
-use Rattle.std.proofs.Math.Nat.{dvd-mul_left, eq-one_of_dvd-one}
 use Rattle.gf_form.proofs.lemmas.strategies.StrategiesByNumber.{whole_label}
 use Rattle.gf_form.proofs.lemmas.values.Plays.{some_play_in, taken_child, in_either}
 
@@ -66,8 +62,7 @@ module _ (g : Game) (game : IsGame g) (choices : SetKey → ℕ) (player : ℕ) 
       ≡ (is_own_choice choices key.player (record { node = n; taken = k })
       && come ps)
   any_below n k [] other = grind arith
-  any_below n k (p ∷ ps) other =
-      grind (arith, and-or_distrib_left, any_below n k ps other)
+  any_below n k (p ∷ ps) other = grind (arith, any_below n k ps other, and-or_distrib_left)
 
   module _ (test : Stop ℕ → Bool) (tells : (n : Node) → test (stop_at g n 0) ≡ is_here n) where
     node_comes_by : (n : Node) (ts : Trees Node) (o : Option SetKey)
@@ -78,11 +73,10 @@ module _ (g : Game) (game : IsGame g) (choices : SetKey → ℕ) (player : ℕ) 
         → come (plays (branch n ts))
         ≡ list_any test (stop_at g n 0 ∷ option_map_or beneath o [])
     node_comes_by n none None beneath at c below = grind (arith, tells n)
-    node_comes_by n none (Some own) beneath at c below =
-        absurd (omega (arith, some_child g game own 0 c))
+    node_comes_by n none (Some own) beneath at c below = grind (arith, some_child)
     node_comes_by n (more t ts) None beneath at c below = absurd (omega (arith, c))
     node_comes_by n (more t ts) (Some own) beneath at c below =
-        grind (arith, list_any-append, any_here n 1 t, tells n, below own at)
+        grind (arith, list_any-append, any_here)
 
     mutual
       comes_in : (t : Tree Node) → AllByRecursion (HasChildren g) (flatten t)
@@ -157,10 +151,7 @@ module _ (g : Game) (choices : SetKey → ℕ) (player : ℕ) (key : SetKey)
 -- ---- the only strategy
 
 one_factor : (a b : ℕ) → a * b ≡ 1 → (a ≡ 1) × (b ≡ 1)
-one_factor a b e = (
-  eq-one_of_dvd-one (subst (λ n. a ∣ n) e (dvd-mul_right a b)),
-  eq-one_of_dvd-one (subst (λ n. b ∣ n) e (dvd-mul_left b a)),
-)
+one_factor a b e = grind (arith, eq-one_of_dvd-one, dvd-mul_right, dvd-mul_left)
 
 all_one : (counts : List ℕ) (i : ℕ) → product counts ≡ 1 → i < length counts
     → get_or counts i 0 ≡ 1
@@ -250,13 +241,7 @@ module _ (g : Game) (game : IsGame g) (spellable : IsSpellable g) (player : ℕ)
 
   steps_own : (steps : List Step) → list_all (is_chosen everybody) steps ≡ true
       → list_all (is_own_choice c player) steps ≡ true
-  steps_own (s ∷ steps) h =
-      let bound : is_chance player ≡ false = grind arith in
-      grind (
-        arith,
-        own_right is_chance everybody everybody player s.node.set s.taken bound,
-        steps_own steps,
-      )
+  steps_own (s ∷ steps) h = grind (arith, steps_own steps, is_chance, own_right)
   steps_own [] h = refl
 
   abbrev Agrees : Play → Type 0

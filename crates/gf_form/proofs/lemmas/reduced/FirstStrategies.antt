@@ -1,46 +1,39 @@
 -- The first of the strategies that reduce to the same one: it has the first action wherever no
 -- choice matters. And the profiles of first strategies are those of the reduced form, in its order.
-use Rattle.std.proofs.lemmas.List.Sums.{count_by-le-length, length-filter}
 use Rattle.gf_form.proofs.Common
-use Common.{AreReducedPayoffsAt, unwrap_or-slice_get, false_from_ne_true, reduced_strategies, false}
-use Common.{ReducedOverflowsAt, same_set_equality, AreProfileNumbers, numbered_profiles, length-map}
-use Common.{mul-le-mul_right, reduced_profiles, HasReducedValues, length-profiles, numbers_joined}
-use Common.{AllByRecursion, is_relevant_at, get_or_default, length-take-le, reduced_labels, product}
-use Common.{IsFirstWithout, if◌then◌else◌, relevant_sets, action_counts, profile_limit, player_keys}
-use Common.{IsReducedForm, full_profiles, numbers_from, ArePayoffsAt, on_ok_weaker, AreDistinct, []}
-use Common.{is_relevant, same_choice, get_or-take, AllZip-long, AreFirstsOf, strategy_at}
-use Common.{IfOk-weaker, length-take, map-append, first_uses, strategies, AreFoundTo, mul-le-mul, ℕ}
-use Common.{get_or-map, all_weaker, reduced_at, reduced_by, IsFormWith, players_of, pointwise, zero}
-use Common.{choice_at, ArePicked, IsProfile, AreRowsAt, HasValues, list_any, map_same, all_both, ap}
-use Common.{numbered, AreBelow, IsPicked, Contains, profiles, IsPaidAt, reduced, add-one, IsFirst}
-use Common.{full_at, Global, Option, length, get_or, SetKey, IsGame, AllZip, subst, arith, shown}
-use Common.{Ratio, Table, Bool, true, List, ◌++◌, Some, None, take, refl, Game, Vec, ◌≡◌, suc, ◌+◌}
-use Common.{◌-◌, ◌*◌, ◌<◌, ◌≤◌, ◌∷◌, map, set, sym, ◌∙◌, ◌↔◌, zip}
-use Rattle.gf_tree.proofs.Offered.{known_more, more_known, IsEquality}
+use Common.{AreReducedPayoffsAt, unwrap_or-slice_get, ReducedOverflowsAt, false_from_ne_true, Entry}
+use Common.{reduced_strategies, Any-from_list_any, AreProfileNumbers, numbered_profiles, AreFoundTo}
+use Common.{same_set_equality, HasReducedValues, mul-le-mul_right, reduced_profiles, AllByRecursion}
+use Common.{all_zipped_more, length-profiles, IsFirstWithout, get_or_default, is_relevant_at, Ratio}
+use Common.{length-take-le, numbers_joined, reduced_labels, IsReducedForm, action_counts, AreFirsts}
+use Common.{full_profiles, if◌then◌else◌, profile_limit, relevant_sets, ArePayoffsAt, are_profiles}
+use Common.{numbers_from, on_ok_weaker, AllZip-long, AreDistinct, AreFirstsOf, IfOk-weaker, IsFirst}
+use Common.{get_or-take, is_relevant, length-take, list_any_at, player_keys, same_choice, ArePicked}
+use Common.{strategy_at, IsEquality, IsFormWith, all_weaker, first_uses, get_or-map, known_more, []}
+use Common.{length-map, map-append, more_known, mul-le-mul, players_of, reduced_at, reduced_by, Vec}
+use Common.{strategies, AreRowsAt, HasValues, IsProfile, choice_at, pointwise, take_more, AreBelow}
+use Common.{Contains, IsPaidAt, IsPicked, all_both, list_any, map_same, numbered, profiles, add-one}
+use Common.{take-map, full_at, product, reduced, AllZip, Global, IsGame, Option, SetKey, get_or, ap}
+use Common.{length, Table, arith, false, shown, subst, Bool, Game, List, None, Some, refl, take, ℕ}
+use Common.{true, zero, ◌++◌, map, set, suc, sym, zip, ◌*◌, ◌+◌, ◌-◌, ◌<◌, ◌↔◌, ◌∙◌, ◌∷◌, ◌≡◌, ◌≤◌}
+use Rattle.std.proofs.lemmas.List.Sums.{count_by-le-length, length-filter}
 use Rattle.gf_form.proofs.lemmas.strategies.Choices.{choice_length, at_its_place, are_choices}
 use Rattle.gf_form.proofs.lemmas.strategies.Choices.{IsChoice, place_at, place}
-use Rattle.gf_form.proofs.lemmas.strategies.Lookups.{keys_distinct, strategy_before}
-use Rattle.gf_form.proofs.lemmas.strategies.Lookups.{first_alike, all_alike, all_right}
+use Rattle.gf_form.proofs.lemmas.strategies.Lookups.{strategy_before, keys_distinct, first_alike}
+use Rattle.gf_form.proofs.lemmas.strategies.Lookups.{all_alike, all_right}
 use Rattle.gf_form.proofs.lemmas.reduced.ReducedForms.{choices_equality}
 use Rattle.gf_form.proofs.lemmas.reduced.Reducing.{reduced_same, same_values, same_row}
-use Rattle.std.proofs.lemmas.List.{take-map, take_more}
-use Rattle.std.proofs.lemmas.List.Folds.{Any-from_list_any, list_any_at}
 use Rattle.gf_form.proofs.lemmas.strategies.StrategiesByNumber.{all_at}
-use Rattle.gf_nfg.specs.Table.{Entry}
-use Rattle.gf_form.specs.inner.reduced.Firsts.{AreFirsts}
 use Rattle.gf_form.proofs.lemmas.strategies.CountedActions.{strategies_positive, product_positive}
-use Rattle.gf_form.proofs.lemmas.strategies.CountedActions.{strategy_counts, as_many_players}
-use Rattle.gf_form.proofs.lemmas.strategies.CountedActions.{all_counted, sets_counted}
-use Rattle.gf_nfg.proofs.Offered.{are_profiles}
-use Rattle.std.proofs.lemmas.Slice.Zip.{all_zipped_more}
+use Rattle.gf_form.proofs.lemmas.strategies.CountedActions.{as_many_players, strategy_counts}
+use Rattle.gf_form.proofs.lemmas.strategies.CountedActions.{sets_counted, all_counted}
 
 -- ---- first uses
 
 fewer_uses : {K : Type 0} (same : K → K → Bool) (ks : List K)
     → length (first_uses same ks) ≤ length ks
 fewer_uses same [] = omega arith
-fewer_uses same (k ∷ ks) =
-    grind (arith, length-filter, count_by-le-length, fewer_uses same ks)
+fewer_uses same (k ∷ ks) = grind (arith, fewer_uses same ks, length-filter, count_by-le-length)
 
 -- one key more
 module _ {K : Type 0} (same : K → K → Bool) (tells : IsEquality same) (ks : List K) (i : ℕ) (d : K)
@@ -216,10 +209,8 @@ module _ (g : Game) (game : IsGame g) (player : ℕ) where
       let early : again.0 < length all = omega (arith, again.1, less) in
       let left = used_again (pointwise same_choice) choices_equality images i []
       (omega (arith, less, length-map all (reduced g player))) again.0 again.1
-      (image_at again.0 early ∙ again.2 ∙ sym (image_at i less)) in record {
-        are = h.are ∙ sym (simp take-map at left);
-        within = wider numbers i h.within;
-      }
+      (image_at again.0 early ∙ again.2 ∙ sym (image_at i less)) in
+      grind (arith, left, take-map, wider)
 
   pub first_kept : (numbers next : List ℕ) (i : ℕ) → i < length all
       → AreFoundTo g player numbers i → IsFirst g player i → next ≡ numbers ++ i ∷ []
@@ -230,10 +221,8 @@ module _ (g : Game) (game : IsGame g) (player : ℕ) where
       let before : m < length all = omega (arith, early, less) in
       let upto = not_repeated i m less before first
       (sym (image_at m before) ∙ same ∙ image_at i less) in omega (arith, upto, early)) in
-      let kept = simp take-map at new in record {
-        are = grind (arith, kept, map-append, image_at i less, h.are);
-        within = grind (arith, all_both, wider, h.within);
-      }
+      let kept = simp take-map at new in
+      grind (arith, kept, map-append, image_at, all_both, wider)
 
   -- strategies that reduce like earlier ones are left out
   pub passed_by : (numbers : List ℕ) (i m : ℕ) → AreFoundTo g player numbers i

@@ -1,18 +1,15 @@
 -- What is left of a player's visits after a choice, visit by visit, and which sets can be met.
-use Rattle.gf_form.specs.inner.reduced.Levels.{HaveBelow, Adds, AreTaken, AreParts, AreFrom}
-use Rattle.gf_form.specs.inner.reduced.Levels.{Takes, is_in, left_of, AreOrderedFrom, AreUpTo}
 use Rattle.gf_form.proofs.Common
-use Common.{false_from_ne_true, get_or-set_other, take-append-drop, list_any-append, get_or_default}
-use Common.{get_or-set_at, take-length, get_or-take, length-drop, length-take, false, refl, suc}
-use Common.{ArePositive, length-set, is_met_on, list_any, or-false, IsChosen, is_left, ◌≡◌, []}
-use Common.{length, get_or, ne_eqb, arith, meets, Level, Visit, Bool, true, List, take, drop, ◌||◌}
-use Common.{◌==◌, ◌+◌, ◌*◌, ◌<◌, ◌≤◌, ◌∷◌, set, sym, ◌∙◌, ap, ℕ, IsNonDecreasingBy, ◌++◌, ◌-◌}
-use Common.{IsNonDecreasingBy-push, length-append, get_or-append_seam, Vec, Global}
-use Rattle.std.proofs.lemmas.List.Sorted.{IsNonDecreasingBy-take, IsNonDecreasingBy-drop}
-use Rattle.std.proofs.lemmas.List.{get_or-drop, set_past}
-use Rattle.std.proofs.lemmas.List.Folds.{Any-from_list_any, list_any_more}
+use Common.{IsNonDecreasingBy-push, false_from_ne_true, get_or-append_seam, Any-from_list_any, Adds}
+use Common.{IsNonDecreasingBy, get_or-set_other, take-append-drop, list_any-append, AreOrderedFrom}
+use Common.{get_or_default, get_or-set_at, length-append, list_any_more, ArePositive, get_or-drop}
+use Common.{get_or-take, length-drop, length-take, take-length, length-set, HaveBelow, is_met_on, ℕ}
+use Common.{AreParts, AreTaken, IsChosen, list_any, or-false, set_past, AreFrom, AreUpTo, is_left}
+use Common.{left_of, or-true, Global, get_or, length, ne_eqb, Level, Takes, Visit, arith, false, []}
+use Common.{is_in, meets, Bool, List, drop, refl, take, true, ◌++◌, ◌==◌, ◌||◌, Vec, set, suc, sym}
+use Common.{◌*◌, ◌+◌, ◌-◌, ◌<◌, ◌∙◌, ◌∷◌, ◌≡◌, ◌≤◌, ap}
+use Rattle.std.proofs.lemmas.List.Sorted.{IsNonDecreasingBy-drop, IsNonDecreasingBy-take}
 use Rattle.gf_form.specs.declared.reduced.level.Parts.{Parts}
-use Rattle.std.proofs.Math.Bool.{or-true}
 
 -- no demands are met
 pub meets_none : (steps choices : List ℕ) → ArePositive steps → meets steps choices 0 ≡ true
@@ -87,14 +84,7 @@ module _ (step action : ℕ) (visits others rest : List Visit) (free start count
 
   rest_demand : (k : ℕ) (d : Visit) → k < length rest → (step ≤ (get_or rest k d).demands)
       × (action * step ≤ (get_or rest k d).demands)
-  rest_demand k d less =
-      grind (
-        arith,
-        length-drop,
-        get_or-drop,
-        others_demand (start + k) d,
-        start_is.above (start + k) d,
-      )
+  rest_demand k d less = grind (arith, length-drop, get_or-drop, others_demand)
 
   module _ (place : ℕ) (steps choices : List ℕ) where
     abbrev counts : Visit → Bool
@@ -113,28 +103,16 @@ module _ (step action : ℕ) (visits others rest : List Visit) (free start count
 
     none_after : list_any counts (drop count rest) ≡ false
     none_after =
-        grind (
-          arith,
-          false_from_ne_true,
-          Any-from_list_any,
-          length-drop,
-          get_or-drop,
-          rest_demand,
-        )
+        grind (arith, false_from_ne_true, Any-from_list_any, length-drop, get_or-drop, rest_demand)
 
     free_left : list_any (is_met_on place steps choices) (take free visits)
         ≡ list_any counts (take free visits)
-    free_left =
-        any_alike (is_met_on place steps choices) counts (take free visits)
-        (λ k d less. grind (arith, length-take, get_or-take, free_is.below))
+    free_left = grind (arith, any_alike, length-take, get_or-take)
 
     own_left : list_any (λ v. is_met_on place steps choices (left_of (action * step) v))
         (take count rest)
         ≡ list_any counts (take count rest)
-    own_left =
-        any_alike (λ v. is_met_on place steps choices (left_of (action * step) v)) counts
-        (take count rest)
-        (λ k d less. grind (arith, length-take, get_or-take, count_is.below k d, rest_demand k d))
+    own_left = grind (arith, any_alike, length-take, get_or-take, rest_demand)
 
   pub parts_are : IsNonDecreasingBy (λ v. v.demands) visits → (parts : Parts)
       → parts.free.now ≡ take free visits → parts.own.now ≡ take count rest

@@ -1,21 +1,19 @@
 -- Strategies that reduce to the same one agree with the same plays, and full profiles that do have
 -- the same payoffs and bottom-up values.
 use Rattle.gf_form.proofs.Common
-use Common.{same_set_equality, IsTerminalValue, AllByRecursion, if◌then◌else◌, option_map_or, arith}
-use Common.{is_own_choice, strategies_at, IsChanceValue, numbers_from, IsChildValue, MultipliesTo}
-use Common.{ArePayoffsAt, MatchOption, IsMoveValue, player_keys, is_relevant, strategy_at, list_all}
-use Common.{probability, choices_by, players_of, strategies, reduced_by, zero_ratio, plays_from, ap}
-use Common.{IsFraction, choice_at, eqb-false, is_chosen, MatchBool, from_node, payoff_at, one_ratio}
-use Common.{HasValues, list_any, or_right, same_set, comes_to, in_right, Contains, eqb-true, SetKey}
-use Common.{map_same, reduced, follows, in_left, has_map, IsValue, or_left, IsEqual, agrees, length}
-use Common.{payoff, branch, Option, get_or, AddsTo, AllZip, Ratio, Trees, false, subst, plays, Bool}
-use Common.{total, true, List, Some, None, drop, refl, ◌||◌, Game, Step, Play, zero, ◌==◌, Tree, []}
-use Common.{none, more, Node, ◌≡◌, inr, Has, has, suc, ◌+◌, ◌-◌, ◌<◌, not, zip, ◌↔◌, map, sym, ◌∙◌}
-use Common.{inl, ◌∷◌, ℕ}
-use Rattle.gf_tree.proofs.Offered.{used_before}
+use Common.{same_set_equality, IsTerminalValue, AllByRecursion, IsChanceValue, if◌then◌else◌, Ratio}
+use Common.{is_own_choice, option_map_or, strategies_at, ArePayoffsAt, IsChildValue, MultipliesTo}
+use Common.{numbers_from, IsMoveValue, MatchOption, is_relevant, player_keys, probability, Contains}
+use Common.{strategy_at, transport⁻¹, used_before, IsFraction, choices_by, players_of, plays_from}
+use Common.{reduced_by, strategies, zero_ratio, HasValues, MatchBool, choice_at, eqb-false, IsEqual}
+use Common.{from_node, is_chosen, one_ratio, payoff_at, transport, comes_to, eqb-true, in_right, []}
+use Common.{list_all, list_any, map_same, or_right, same_set, IsValue, follows, has_map, in_left, ℕ}
+use Common.{or_left, reduced, AddsTo, AllZip, Option, SetKey, agrees, branch, get_or, length, Trees}
+use Common.{payoff, arith, false, plays, subst, total, Bool, Game, List, Node, None, Play, Some, ap}
+use Common.{Step, Tree, drop, more, none, refl, true, zero, ◌==◌, ◌||◌, Has, has, inl, inr, map}
+use Common.{not, suc, sym, zip, ◌+◌, ◌-◌, ◌<◌, ◌↔◌, ◌∙◌, ◌∷◌, ◌≡◌}
 use Rattle.gf_form.proofs.lemmas.strategies.Lookups.{strategy_before, own_set}
 use Rattle.gf_form.proofs.lemmas.values.BottomUp.{payoff_is, share}
-use Rattle.std.proofs.Math.Path.{transport⁻¹, transport}
 
 -- ---- tests
 
@@ -119,12 +117,7 @@ module _ (g : Game) (player : ℕ) where
   pub reduced_same : (s t : List ℕ) → ((key : SetKey) → key.player ≡ player
       → is_relevant g (chosen s) key ≡ true → chosen s key ≡ chosen t key)
       → reduced g player s ≡ reduced g player t
-  reduced_same s t same =
-      map_same _ _ (player_keys g player) (λ key i.
-      let own = (own_set g player key i).3 in
-      let relevant = relevance_same (chosen s) (chosen t) same key own in
-      let equal = same key own in
-      grind arith)
+  reduced_same s t same = grind (arith, map_same, own_set, relevance_same)
 
   pub reduced_agree : (s t : List ℕ) → reduced g player s ≡ reduced g player t → (play : Play)
       → Contains (plays g.tree) play → agrees (choice_at (player_keys g player) s) player play
@@ -145,17 +138,13 @@ module _ (g : Game) where
   his_comes : (all : List (List ℕ)) (key : SetKey) (steps : List Step)
       → comes_to (choices_by g all) key steps
       ≡ comes_to (chosen g key.player (strategy_at all key.player)) key steps
-  his_comes all key steps =
-      comes_same g key.player (choices_by g all)
-      (chosen g key.player (strategy_at all key.player)) key refl steps
-      (λ own his come. grind (arith, eqb-true))
+  his_comes all key steps = grind (arith, comes_same, eqb-true)
 
   equal_for : (all others : List (List ℕ)) → AreReducedAlike all others → (play : Play)
       → Has (plays g.tree) play
       → AreEqualOn is_chance (choices_by g all) (choices_by g others) play.steps
   equal_for all others alike play i key bound come =
-      let above : 0 < key.player = grind (arith, eqb-false) in
-      grind (arith, same_where_relevant, any_has, his_comes)
+      grind (arith, eqb-false, same_where_relevant, any_has, his_comes)
 
   -- the strategies of these players, and what they reduce to
   abbrev strategies_of : List ℕ → List ℕ → List (List ℕ)

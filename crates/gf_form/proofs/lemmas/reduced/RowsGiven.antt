@@ -1,94 +1,24 @@
 -- Rows that tell which sets are relevant: what a level tells of strategies after a choice, or at a
 -- digit at which nothing is demanded, and which strategies have a row.
 use Rattle.gf_form.proofs.Common
-use Common.{AllByRecursion, reduced_labels, reduced_label, ◌^◌}
-use Common.{IsNonDecreasingBy, recursion_from_All, All-from_get_or, All-from_recursion, ◌≡◌, ◌%◌}
-use Common.{all_choices, ArePositive, actions_of, strategies, choices_at, length-map}
-use Common.{get_or-set_other, get_or_append_left, AreFirstsOf}
-use Common.{relevant_sets, IsPermutation, All-permutation, mul-div_cancel_left}
-use Common.{length-append, length-set, OwnDigit, steps_to, IsChosen, numbered, map-append}
-use Common.{player_keys, all_both, all_parts, map_twice, IsLevel, reduced}
-use Common.{dvd-mul_left, div-lt_iff_lt-mul, is_met, product, IsFine, length, get_or, Level, Visit, ℕ}
-use Common.{subst, arith, false, Bool, List, take, drop, ◌++◌, refl, Game, ◌+◌, ◌-◌, ◌*◌, ◌/◌}
-use Common.{◌<◌, ◌≤◌, ◌∷◌, set, map, sym, ◌∙◌, ap, [], mod-lt}
-use Common.{◌∣◌, slice_get, slice_get-get_or, Some, take-append-drop}
-use Rattle.gf_form.specs.inner.reduced.Levels.{Marks}
-use Rattle.gf_form.specs.inner.reduced.Rows.{AreGiven, AreTold, ChooseInTurn, HasRow}
-use Rattle.gf_form.specs.inner.reduced.Rows.{IsPlain, IsTold}
+use Common.{All-from_recursion, recursion_from_All, IsNonDecreasingBy, get_or-set_other, all_weaker}
+use Common.{slice_get-get_or, take-append-drop, All-from_get_or, All-permutation, get_or-set_same}
+use Common.{AllByRecursion, reduced_labels, IsPermutation, action_counts, reduced_label, choices_at}
+use Common.{relevant_sets, ChooseInTurn, AreFirstsOf, is_relevant, player_keys, ext_get_or, AreTold}
+use Common.{length-map, length-set, map-append, strategies, all_parts, choice_at, map_twice, Global}
+use Common.{slice_get, take_more, AreGiven, IsChosen, OwnDigit, all_both, cases_eq, numbered, Found}
+use Common.{IsLevel, product, reduced, HasRow, IsGame, IsTold, get_or, is_met, length, Level, Marks}
+use Common.{Visit, arith, false, shown, subst, Bool, Game, List, Some, drop, refl, take, ◌++◌, Vec}
+use Common.{map, set, sym, ◌%◌, ◌+◌, ◌-◌, ◌/◌, ◌<◌, ◌∙◌, ◌∷◌, ◌≡◌, [], ap, ℕ}
+use Rattle.gf_form.specs.inner.reduced.Rows.{IsPlain}
 use Rattle.std.proofs.lemmas.List.Sorted.{IsPermutation-sym}
 use Rattle.gf_form.proofs.lemmas.reduced.LevelsChosen.{no_visit}
-use Common.{mul-le-mul_right, all_weaker, is_relevant, choice_at, Vec, Global}
-use Rattle.gf_form.specs.declared.reduced.labels.Found.{Found}
 use Rattle.gf_form.specs.declared.reduced.labels.Relevance.{Relevance}
-use Rattle.gf_form.proofs.lemmas.reduced.Searches.{steps_positive}
-use Rattle.gf_form.proofs.lemmas.strategies.Choices.{choices_next}
-use Rattle.gf_form.proofs.lemmas.strategies.CountedActions.{product_positive}
-use Rattle.std.proofs.lemmas.List.{ext_get_or, take_more, take_all, get_or-set_same}
-use Rattle.std.proofs.lemmas.Bool.{cases_eq}
-use Common.{inl, inr}
+use Rattle.gf_form.proofs.lemmas.reduced.Searches.{steps_positive, chosen_here, count_some}
+use Rattle.gf_form.proofs.lemmas.reduced.Searches.{each_some}
+use Rattle.gf_form.proofs.lemmas.strategies.Choices.{length-all_choices, long}
 use Rattle.gf_form.proofs.lemmas.strategies.StrategiesByNumber.{all_at}
-use Rattle.gf_form.proofs.lemmas.strategies.Choices.{long, length-all_choices}
-use Rattle.gf_form.proofs.lemmas.reduced.FirstStrategies.{flags_fit, reduced_shown_at}
-use Common.{IsGame, action_counts, shown}
-use Rattle.std.proofs.Math.Nat.{mod-mod_of_dvd}
-
--- ---- choices in turn
-
-actions_positive : (digits : List OwnDigit) → AllByRecursion IsFine digits
-    → ArePositive (actions_of digits)
-actions_positive [] h = tt
-actions_positive (d ∷ digits) h = (h.0.actions, actions_positive digits h.1)
-
-module _ {g : Game} {player count : ℕ} {d : OwnDigit} {faster : List OwnDigit}
-    (turn : ChooseInTurn g player (d ∷ faster) count) where
-  abbrev each : ℕ
-  each = count / d.actions
-
-  pub some_each : 0 < product (actions_of faster)
-  some_each = product_positive (actions_of faster) (actions_positive faster turn.fine.1)
-
-  each_is : each ≡ product (actions_of faster)
-  each_is = grind (arith, mul-div_cancel_left, turn.counted, turn.fine.0.actions)
-
-  pub each_some : 0 < each
-  each_some = omega (arith, each_is, some_each)
-
-  pub count_some : 0 < count
-  count_some =
-      subst (λ (n : ℕ). 0 < n) (sym turn.counted)
-      (product_positive (actions_of (d ∷ faster)) (actions_positive (d ∷ faster) turn.fine))
-
-  parts : (n : ℕ) → n < length (strategies g player) → choices_at g player (d ∷ faster) n
-      ≡ (n % count / each + 1) ∷ get_or (all_choices (actions_of faster)) (n % each) []
-  parts n within =
-      let below : n % count < d.actions * product (actions_of faster) =
-      omega (arith, mod-lt n count_some, turn.counted) in
-      let whole : count ≡ d.actions * each = cc (turn.counted, each_is) in
-      let same : n % count % each ≡ n % each =
-      mod-mod_of_dvd each n
-      (subst (λ (m : ℕ). each ∣ m) (sym whole) (dvd-mul_left each d.actions)) in
-      let next = choices_next d.actions (actions_of faster) (n % count) some_each below in
-      grind (arith, turn.chosen n within, next, each_is, same)
-
-  -- the action at the digit
-  pub chosen_here : (n : ℕ) → n < length (strategies g player)
-      → get_or (numbered g player n) d.place 0 ≡ n % count / each + 1
-  chosen_here n within = ap (λ (l : List ℕ). get_or l 0 0) (parts n within)
-
-  pub turn_next : ChooseInTurn g player faster each
-  turn_next = record {
-    fine = turn.fine.1;
-    counted = each_is;
-    chosen = λ n within. ap (drop 1) (parts n within);
-  }
-
-  pub action_fits : (n before : ℕ) → before ≡ n % count / each
-      → (before + 1) * d.step + d.step < 2 ^ 64
-  action_fits n before is =
-      let less : n % count / each < d.actions =
-      grind (arith, div-lt_iff_lt-mul, mod-lt, each_some, count_some, each_is, turn.counted) in
-      let upto : before + 1 ≤ d.actions = omega (arith, less, is) in
-      omega (arith, turn.fine.0.fits, mul-le-mul_right d.step upto)
+use Rattle.gf_form.proofs.lemmas.reduced.FirstStrategies.{reduced_shown_at, flags_fit}
 
 -- ---- lists
 
@@ -105,11 +35,8 @@ both P Q R h (x ∷ xs) p q = (h x p.0 q.0, both P Q R h xs p.1 q.1)
 -- what is right of each place is so if one place is set, and that rightly
 set_right : (Right : ℕ → ℕ → Type 0) (xs : List ℕ) (at row : ℕ) → at < length xs → Right at row
     → (place : ℕ) → Right place (get_or xs place 0) → Right place (get_or (set xs at row) place 0)
-set_right Right xs at row inside right place old = elim (cases_eq place at) [
-  | inl same ↦ subst (λ (p : ℕ). Right p (get_or (set xs at row) p 0)) (sym same)
-      (rw (get_or-set_same xs at row 0 inside) right)
-  | inr other ↦ rw (get_or-set_other xs at place row 0 other) old
-]
+set_right Right xs at row inside right place old =
+    grind (arith, cases_eq, get_or-set_same, get_or-set_other)
 
 -- ---- what a level tells
 
@@ -136,15 +63,7 @@ module _ {g : Game} {player count : ℕ} {d : OwnDigit} {faster : List OwnDigit}
   free_told : AllByRecursion (λ v. v.demands < d.step) level.visits.items
       → (found : Found) → IsTold g player (d ∷ faster) numbers level found
       → IsTold g player faster numbers level found
-  free_told below found told = record {
-    there = told.there;
-    number = told.number;
-    within = told.within;
-    tells = λ place among.
-        let free = free_met place d.step (get_or (numbered g player found.number) d.place 0)
-        (steps_to faster) (choices_at g player faster found.number) level.visits.items below in
-        grind (arith, told.tells place among, free);
-  }
+  free_told below found told = grind (arith, free_met)
 
   pub told_free : (all ordered : List Found) (last : Visit)
       → AreTold g player (d ∷ faster) numbers level all
@@ -166,16 +85,7 @@ module _ {g : Game} {player count : ℕ} {d : OwnDigit} {faster : List OwnDigit}
         → found.number % count / (count / d.actions) ≡ before
         → IsTold g player (d ∷ faster) numbers level found
         → IsTold g player faster numbers left found
-    chosen_told old found same told = record {
-      there = told.there;
-      number = told.number;
-      within = told.within;
-      tells = λ place among.
-          let left_is = chosen place (steps_to faster) (choices_at g player faster found.number)
-          (omega (arith, among, old.counted)) (steps_positive faster turn.fine.1) in
-          let here = chosen_here turn found.number told.within in
-          grind (arith, told.tells place among, left_is, here, same, is_next);
-    }
+    chosen_told old found same told = grind (arith, steps_positive, chosen_here)
 
     pub told_chosen : (all done rest own : List Found) (k : ℕ)
         → AreTold g player (d ∷ faster) numbers level all → all ≡ done ++ rest
@@ -216,19 +126,6 @@ module _ {g : Game} {player : ℕ} {digits : List OwnDigit} {numbers : List ℕ}
       ∙ sym (told.tells place inside))
 
 module _ {g : Game} {player : ℕ} {numbers : List ℕ} where
-  -- one more row, which nothing has yet
-  pub row_pushed : (before after : Relevance) (row : Vec Bool Global)
-      → after.rows.items ≡ before.rows.items ++ row ∷ [] → after.row_of ≡ before.row_of
-      → AreGiven g player numbers before after []
-  row_pushed before after row more same = record {
-    room = ap (λ (v : Vec ℕ Global). length v.items) same;
-    kept = λ place has. record {
-      within = grind (arith, has.within, length-append);
-      is = grind (arith, has.within, has.is, map-append, get_or_append_left, length-map);
-    };
-    given = tt;
-  }
-
   -- a strategy has one in addition
   pub one_given : (before r after : Relevance) (done : List Found) (found : Found) (row : ℕ)
       → AreGiven g player numbers before r done → after.rows ≡ r.rows
@@ -281,25 +178,12 @@ module _ {g : Game} {player : ℕ} {numbers : List ℕ} where
   -- nothing but the rows counts
   pub nothing_given : (before after : Relevance) → after.rows ≡ before.rows
       → after.row_of ≡ before.row_of → AreGiven g player numbers before after []
-  nothing_given before after rows_are row_of_are = record {
-    room = ap (λ (v : Vec ℕ Global). length v.items) row_of_are;
-    kept = λ place has. record {
-      within = rw (rows_are, row_of_are) has.within;
-      is = rw (rows_are, row_of_are) has.is;
-    };
-    given = tt;
-  }
+  nothing_given before after rows_are row_of_are = grind arith
 
   pub both_given : (before r after : Relevance) (done own : List Found)
       → AreGiven g player numbers before r done → AreGiven g player numbers r after own
       → AreGiven g player numbers before after (done ++ own)
-  both_given before r after done own first second = record {
-    room = second.room ∙ first.room;
-    kept = λ place has. second.kept place (first.kept place has);
-    given = all_both _ done own
-        (all_weaker _ _ (λ found has. second.kept found.place has) done first.given)
-        second.given;
-  }
+  both_given before r after done own first second = grind (arith, all_both, all_weaker)
 
   pub given_permuted : (before after : Relevance) (strategies ordered : List Found)
       → IsPermutation strategies ordered → AreGiven g player numbers before after ordered
@@ -328,12 +212,7 @@ module _ (g : Game) (game : IsGame g) (player : ℕ) (numbers : List ℕ)
     (firsts : AreFirstsOf g numbers player) where
   pub number_within : (i : ℕ) → i < length numbers
       → get_or numbers i 0 < product (action_counts g player)
-  number_within i less =
-      omega (
-        arith,
-        all_at (λ n. n < length (strategies g player)) numbers i 0 firsts.1 less,
-        length-all_choices (action_counts g player),
-      )
+  number_within i less = grind (arith, all_at, length-all_choices)
 
   module _ (r : Relevance) (i : ℕ) (less : i < length numbers)
       (has : HasRow g player numbers r i) where
@@ -368,7 +247,5 @@ module _ (g : Game) (game : IsGame g) (player : ℕ) (numbers : List ℕ)
   pub labels_written : map (λ n. reduced_label (reduced g player (numbered g player n))) numbers
       ≡ reduced_labels g player
   labels_written = sym (map_twice reduced_label _ numbers) ∙ ap (map reduced_label) firsts.0
-
-pub ruleset written_steps = (number_within, row_fits, long, length-all_choices, take_all)
 
 pub ruleset row_steps = (each_some, count_some)

@@ -1,28 +1,21 @@
 -- The digits of one player's sets, and his visits to these; a search for first strategies, and that
 -- for their labels, before the first choice; and what the player has at the end.
 use Rattle.gf_form.proofs.Common
-use Common.{slice_get-get_or, mul-le-mul_right, AllByRecursion, []}
-use Common.{is_relevant_at, action_counts, FindRelevance, append_assoc, steps_after}
-use Common.{ArePositive, digits_from, player_keys, is_relevant, AreFirstsOf, HaveChoices, is_met_on}
-use Common.{same_choice, digits_with, get_or-map, choices_at, strategies, AreFoundTo, ℕ}
-use Common.{IsSearched, actions_of, first_uses, drop-drop, choice_at, pointwise, reduced}
-use Common.{numbered, OwnDigit, digit_at, steps_to, steps_of, IsLevel, is_left}
-use Common.{product, nat_lt, AreOwn, picked, SetKey, IsGame, IsFine, is_met, length, subst}
-use Common.{get_or, Level, arith, false, width, Visit, ◌&&◌, List, ◌++◌, drop, refl, take, ◌||◌, ap}
-use Common.{Game, ◌≡◌, ◌+◌, ◌*◌, ◌^◌, ◌<◌, ◌≤◌, ◌∷◌, sym, ◌∙◌, map, suc}
-use Rattle.gf_form.proofs.lemmas.rows.Digits.{width_positive, steps_long}
-use Rattle.gf_form.proofs.lemmas.rows.Digits.{next_is}
-use Rattle.gf_form.specs.inner.reduced.Visits.{HoldTheSame}
+use Common.{recursion_from_All, mul-le-mul_right, slice_get-get_or, All-from_get_or, AllByRecursion}
+use Common.{is_relevant_at, FindRelevance, action_counts, ChooseInTurn, append_assoc, mod-eq_of_lt}
+use Common.{AreFirstsOf, ArePositive, HoldTheSame, digits_from, digits_with, get_or-drop, choice_at}
+use Common.{is_relevant, player_keys, same_choice, steps_after, AreFoundTo, IsSearched, actions_of}
+use Common.{choices_at, first_uses, get_or-map, strategies, drop-drop, is_met_on, nat_tests, AreOwn}
+use Common.{pointwise, OwnDigit, digit_at, numbered, steps_of, steps_to, AreTold, IsLevel, is_left}
+use Common.{product, reduced, IsFine, IsGame, IsTold, SetKey, get_or, is_met, length, nat_lt, Found}
+use Common.{picked, Level, Visit, arith, false, subst, width, Game, List, drop, refl, take, ◌&&◌, ℕ}
+use Common.{◌++◌, ◌||◌, map, suc, sym, ◌*◌, ◌+◌, ◌<◌, ◌^◌, ◌∙◌, ◌∷◌, ◌≡◌, ◌≤◌, [], ap}
+use Rattle.gf_form.proofs.lemmas.rows.Digits.{width_positive, steps_long, next_is}
 use Rattle.gf_form.proofs.lemmas.reduced.LevelsChosen.{no_visit}
 use Rattle.gf_form.proofs.lemmas.reduced.Searches.{place_inside}
 use Rattle.gf_form.proofs.lemmas.reduced.RowsGiven.{no_found}
-use Rattle.gf_form.specs.declared.reduced.labels.Found.{Found}
-use Rattle.gf_form.specs.inner.reduced.Rows.{AreTold, ChooseInTurn, IsTold}
-use Common.{mod-eq_of_lt, recursion_from_All, All-from_get_or}
-use Rattle.std.proofs.lemmas.Bool.Decides.{nat_tests}
-use Rattle.std.proofs.lemmas.List.{get_or-drop}
-use Rattle.gf_form.proofs.lemmas.rows.GameDigits.{choice_at_number, product_picked, picked_at}
-use Rattle.gf_form.proofs.lemmas.rows.GameDigits.{width_fits}
+use Rattle.gf_form.proofs.lemmas.rows.GameDigits.{choice_at_number, product_picked, width_fits}
+use Rattle.gf_form.proofs.lemmas.rows.GameDigits.{picked_at}
 use Rattle.gf_form.proofs.lemmas.strategies.Choices.{length-all_choices, choice_length}
 use Rattle.gf_form.proofs.lemmas.strategies.CountedActions.{actions_positive, sets_counted}
 use Rattle.gf_form.proofs.lemmas.strategies.CountedActions.{take_past}
@@ -131,8 +124,8 @@ module _ (g : Game) (game : IsGame g) (player : ℕ) (digits : List OwnDigit)
       ∙ places_from (numbered g player n) (numbered g player n) 0 counts refl
       (choice_length counts (numbered g player n) (choice_at_number counts n less))
 
-  all_choices_had : HaveChoices g player digits 0 whole
-  all_choices_had =
+  pub all_in_turn : ChooseInTurn g player digits whole
+  all_in_turn =
       grind (
         arith,
         actions_positive,
@@ -143,6 +136,7 @@ module _ (g : Game) (game : IsGame g) (player : ℕ) (digits : List OwnDigit)
         actions_are,
         choices_are,
         picked_at,
+        mod-eq_of_lt,
       )
 
   -- A set is relevant if some visit to it comes about. The level has these visits, to other places.
@@ -172,25 +166,18 @@ module _ (g : Game) (game : IsGame g) (player : ℕ) (digits : List OwnDigit)
     all_are = are;
     rest = refl;
     deep = omega arith;
-    told = record {
-      choices = all_choices_had;
-      levelled = levelled;
-      tells = λ n j from to among.
-          let inside = place_inside g game player digits are j among in
-          let relevant = told_by own held n (digit_at digits j).place j to
-          (omega (arith, inside, sets_counted g player))
-          (own_are j (steps_to digits) (choices_at g player digits n) among) in
-          grind (arith, nat_tests, relevant);
-    };
-  }
-
-  pub all_in_turn : ChooseInTurn g player digits whole
-  all_in_turn = record {
-    fine = all_choices_had.fine;
-    counted = all_choices_had.counted;
-    chosen = λ n within.
-        let less : n < whole = omega (arith, within, whole_is, length-all_choices counts) in
-        rw (mod-eq_of_lt less) (all_choices_had.chosen n n (omega arith) less);
+    turn = all_in_turn;
+    row = 0;
+    start = omega arith;
+    end = omega (arith, whole_is, length-all_choices counts);
+    few = omega (arith, whole_is, few, length-all_choices counts);
+    levelled = levelled;
+    tells = λ n j from to among.
+        let inside = place_inside g game player digits are j among in
+        let relevant = told_by own held n (digit_at digits j).place j to
+        (omega (arith, inside, sets_counted g player))
+        (own_are j (steps_to digits) (choices_at g player digits n) among) in
+        grind (arith, nat_tests, relevant);
   }
 
   pub told_all : HoldTheSame visits level.visits.items → IsLevel (length counts) level

@@ -1,27 +1,20 @@
 -- A search for first strategies, choice by choice: what is below the choices so far, and what it
 -- finds where it goes no further. And the labels of those that were found, come to in the same way.
 use Rattle.gf_form.proofs.Common
-use Common.{mul-div_cancel_left, div-lt_iff_lt-mul, mul-le-mul_right, length-take-le, if◌then◌else◌}
-use Common.{AllByRecursion, is_relevant_at, action_counts, AreFirstBelow, IsSearched}
-use Common.{get_or-take, digits_from, length-drop, ◌≡◌}
-use Common.{all_choices, ArePositive, HaveChoices, actions_of, is_settled, strategies}
-use Common.{choices_at, IsChosenAt, can_be_met, AreFoundTo, cases_Bool, suc}
-use Common.{OwnDigit, IsToldBy, digit_at, numbered, list_any, arith}
-use Common.{cases_lt, steps_to, IsLevel, is_left, IsFirst, product, length, Level}
-use Common.{get_or, IsFine, IsGame, is_met, nat_lt, Visit, false, subst, take, drop, ◌&&◌, ℕ}
-use Common.{Game, zero, Bool, true, List, refl, ◌==◌, ◌||◌, ◌+◌, ◌<◌, ◌≤◌, ◌∷◌, inl, inr, sym}
-use Common.{◌∙◌, ◌-◌, ◌*◌, ◌/◌, ◌^◌, ap, []}
-use Rattle.gf_form.specs.inner.reduced.Levels.{Marks}
-use Rattle.gf_form.proofs.lemmas.strategies.StrategiesByNumber.{positive_parts, choices_next}
-use Rattle.gf_form.proofs.lemmas.strategies.StrategiesByNumber.{choices_row}
-use Rattle.std.proofs.lemmas.Bool.Decides.{nat_tests}
+use Common.{mul-div_cancel_left, div-lt_iff_lt-mul, mul-le-mul_right, nil_from_length, ChooseInTurn}
+use Common.{AllByRecursion, is_relevant_at, length-take-le, mod-mod_of_dvd, AreFirstBelow, OwnDigit}
+use Common.{action_counts, if◌then◌else◌, dvd-mul_left, ArePositive, all_choices, digits_from, Bool}
+use Common.{div-mul-add, get_or-take, length-drop, mod-mul-add, AreFoundTo, IsChosenAt, IsSearched}
+use Common.{actions_of, can_be_met, cases_Bool, choices_at, is_settled, strategies, mul_assoc, Game}
+use Common.{nat_tests, and-true, cases_lt, digit_at, list_any, numbered, steps_to, IsFirst, IsLevel}
+use Common.{is_left, product, IsFine, IsGame, get_or, is_met, length, mod-lt, nat_lt, Level, Marks}
+use Common.{Visit, arith, false, subst, List, drop, refl, take, true, zero, ◌&&◌, ◌==◌, ◌||◌, inl}
+use Common.{inr, suc, sym, ◌%◌, ◌*◌, ◌+◌, ◌-◌, ◌/◌, ◌<◌, ◌^◌, ◌∙◌, ◌∣◌, ◌∷◌, ◌≡◌, ◌≤◌, [], ap, ℕ}
+use Rattle.gf_form.proofs.lemmas.strategies.StrategiesByNumber.{choices_next}
 use Rattle.gf_form.proofs.lemmas.rows.GameDigits.{choice_at_number}
-use Rattle.gf_form.proofs.lemmas.strategies.CountedActions.{action_within}
+use Rattle.gf_form.proofs.lemmas.strategies.CountedActions.{product_positive, action_within}
 use Rattle.gf_form.proofs.lemmas.strategies.Choices.{length-all_choices, long}
-use Rattle.gf_form.proofs.lemmas.reduced.FirstStrategies.{IsRepeated, passed_by}
-use Rattle.gf_form.proofs.lemmas.reduced.FirstStrategies.{repeated}
-use Rattle.std.proofs.lemmas.List.{ext_get_or, nil_from_length}
-use Rattle.std.proofs.Math.Bool.{and-true}
+use Rattle.gf_form.proofs.lemmas.reduced.FirstStrategies.{IsRepeated, passed_by, repeated}
 use Rattle.gf_form.proofs.lemmas.rows.Digits.{next_is}
 
 pub steps_positive : (digits : List OwnDigit) → AllByRecursion IsFine digits
@@ -29,106 +22,63 @@ pub steps_positive : (digits : List OwnDigit) → AllByRecursion IsFine digits
 steps_positive [] h = tt
 steps_positive (d ∷ digits) h = (h.0.step, steps_positive digits h.1)
 
--- at a digit
-module _ {g : Game} {player number count : ℕ} {d : OwnDigit} {faster : List OwnDigit}
-    (h : HaveChoices g player (d ∷ faster) number count) where
+-- ---- choices in turn
+
+actions_positive : (digits : List OwnDigit) → AllByRecursion IsFine digits
+    → ArePositive (actions_of digits)
+actions_positive [] h = tt
+actions_positive (d ∷ digits) h = (h.0.actions, actions_positive digits h.1)
+
+module _ {g : Game} {player count : ℕ} {d : OwnDigit} {faster : List OwnDigit}
+    (turn : ChooseInTurn g player (d ∷ faster) count) where
   abbrev each : ℕ
   each = count / d.actions
 
-  pub some_actions : 0 < d.actions
-  some_actions = h.fine.0.actions
+  pub some_each : 0 < product (actions_of faster)
+  some_each = product_positive (actions_of faster) (actions_positive faster turn.fine.1)
 
   each_is : each ≡ product (actions_of faster)
-  each_is = grind (arith, mul-div_cancel_left, some_actions)
+  each_is = grind (arith, mul-div_cancel_left, turn.counted, turn.fine.0.actions)
+
+  pub each_some : 0 < each
+  each_some = omega (arith, each_is, some_each)
+
+  pub count_some : 0 < count
+  count_some = grind (arith, product_positive, actions_positive)
+
+  parts : (n : ℕ) → n < length (strategies g player) → choices_at g player (d ∷ faster) n
+      ≡ (n % count / each + 1) ∷ get_or (all_choices (actions_of faster)) (n % each) []
+  parts n within =
+      let below : n % count < d.actions * product (actions_of faster) =
+      omega (arith, mod-lt n count_some, turn.counted) in
+      let whole : count ≡ d.actions * each = cc (turn.counted, each_is) in
+      let same : n % count % each ≡ n % each =
+      mod-mod_of_dvd each n
+      (subst (λ (m : ℕ). each ∣ m) (sym whole) (dvd-mul_left each d.actions)) in
+      let next = choices_next d.actions (actions_of faster) (n % count) some_each below in
+      grind (arith, turn.chosen n within, next, each_is, same)
+
+  -- the action at the digit
+  pub chosen_here : (n : ℕ) → n < length (strategies g player)
+      → get_or (numbered g player n) d.place 0 ≡ n % count / each + 1
+  chosen_here n within = ap (λ (l : List ℕ). get_or l 0 0) (parts n within)
+
+  pub turn_next : ChooseInTurn g player faster each
+  turn_next = grind (arith, each_is, parts)
+
+  pub action_fits : (n before : ℕ) → before ≡ n % count / each
+      → (before + 1) * d.step + d.step < 2 ^ 64
+  action_fits n before is =
+      grind (arith, div-lt_iff_lt-mul, mod-lt, each_some, count_some, each_is, mul-le-mul_right)
+
+  pub some_actions : 0 < d.actions
+  some_actions = turn.fine.0.actions
 
   rows_are : d.actions * each ≡ count
-  rows_are = rw each_is (sym h.counted)
-
-  pub all_rows : number + d.actions * each ≡ number + count
-  all_rows = omega (arith, rows_are)
+  rows_are = rw each_is (sym turn.counted)
 
   pub step_fits : (a : ℕ) → a ≤ d.actions → a * d.step + d.step < 2 ^ 64
-  step_fits a le = omega (arith, h.fine.0.fits, mul-le-mul_right d.step le)
-
-  -- an action other than the first is chosen after the first rows
-  pub moved : (n : ℕ) → number + each ≤ n → n < number + count
-      → ¬ (get_or (numbered g player n) d.place 0 ≡ 1)
-  moved n from before first =
-      let k = n - number in
-      let actions = actions_of faster in
-      let past : product actions ≤ k = omega (arith, each_is, from) in
-      let within : k < d.actions * product actions = omega (arith, from, before, h.counted) in
-      let some = (positive_parts d.actions (product actions) k within).1 in
-      let head = ap (λ (l : List ℕ). get_or l 0 0) (h.chosen k n (omega (arith, from))
-      (omega (arith, from, before)) ∙ choices_next d.actions actions k some within) in
-      let low : k / product actions < 1 = omega (arith, sym head ∙ first) in
-      omega (arith, past, (div-lt_iff_lt-mul some).0 low)
-
-  module _ (before : ℕ) (less : before < d.actions) where
-    row_end : before * each + each ≤ count
-    row_end = grind (arith, rows_are, mul-le-mul_right)
-
-    pub next_end : number + before * each + each ≤ number + count
-    next_end = omega (arith, row_end)
-
-    chosen : (k n : ℕ) → n ≡ number + before * each + k → k < each
-        → choices_at g player (d ∷ faster) n
-        ≡ (before + 1) ∷ get_or (all_choices (actions_of faster)) k []
-    chosen k n is within =
-        let others = product (actions_of faster) in
-        let row : before * others + k ≡ before * each + k =
-        ap (λ (e : ℕ). before * e + k) (sym each_is) in
-        h.chosen (before * others + k) n (omega (arith, is, row))
-        (omega (arith, row, within, row_end))
-        ∙ choices_row d.actions (actions_of faster) before k less (omega (arith, within, each_is))
-
-    pub next_choices : HaveChoices g player faster (number + before * each) each
-    next_choices = record {
-      fine = h.fine.1;
-      counted = each_is;
-      end = omega (arith, next_end, h.end);
-      few = h.few;
-      chosen = λ k n is within. ap (drop 1) (chosen k n is within);
-    }
-
-    -- the action at the digit
-    pub chosen_there : (n : ℕ) → number + before * each ≤ n → n < number + before * each + each
-        → get_or (numbered g player n) d.place 0 ≡ before + 1
-    chosen_there n from to =
-        ap (λ (l : List ℕ). get_or l 0 0) (chosen (n - (number + before * each)) n
-        (omega (arith, from)) (omega (arith, from, to)))
-
--- what the next level tells
-module _ {g : Game} {player number count : ℕ} {d : OwnDigit} {faster : List OwnDigit}
-    {flag : ℕ → ℕ → Bool} {places : ℕ} {level : Level}
-    (told : IsToldBy g player (d ∷ faster) flag places level number count) (before : ℕ)
-    (less : before < d.actions) {left : Level} (levelled : IsLevel (length level.known.items) left)
-    {action : ℕ} (is : action ≡ before + 1) where
-  told_there : (n place : ℕ) → number + before * (count / d.actions) ≤ n
-      → n < number + before * (count / d.actions) + count / d.actions → place < places
-      → flag n place ≡ is_left place (d.step ∷ steps_to faster)
-      (action ∷ choices_at g player faster n) level
-  told_there n place from to among =
-      let end = next_end told.choices before less in
-      let here = chosen_there told.choices before less n from to in
-      grind (arith, told.tells n place)
-
-  -- with other flags, which are set at one more place, if the first action is chosen
-  pub next_told_at : (other : ℕ) (next : ℕ → ℕ → Bool) → IsChosenAt other d.step action level left
-      → ((n place : ℕ) → number + before * (count / d.actions) ≤ n
-      → n < number + before * (count / d.actions) + count / d.actions
-      → next n place ≡ (flag n place || (before + 1 == 1 && place == other)))
-      → IsToldBy g player faster next places left (number + before * (count / d.actions))
-      (count / d.actions)
-  next_told_at other next chosen more = record {
-    choices = next_choices told.choices before less;
-    levelled = rw told.levelled.counted at levelled;
-    tells = λ n place from to among.
-        let left_is = chosen place (steps_to faster) (choices_at g player faster n)
-        (omega (arith, among, told.levelled.counted))
-        (steps_positive faster told.choices.fine.1) in
-        grind (arith, left_is, told_there n place from to among, more n place from to);
-  }
+  step_fits a le = omega (arith, turn.fine.0.fits, mul-le-mul_right d.step le)
 
 -- ---- the digit at a depth
 
@@ -145,28 +95,66 @@ settled_more : (r : Bool) (a j depth before : ℕ) → (j ≡ depth → a ≡ be
     ≡ ((r || (nat_lt j depth && a == 1)) || (before + 1 == 1 && j == depth))
 settled_more r a j depth before same = grind (arith, nat_tests)
 
-pub next_searched : {g : Game} {player number count depth : ℕ} {all faster : List OwnDigit}
-    {level : Level} {d : OwnDigit} (below : IsSearched g player all (d ∷ faster) level depth number
-    count) (before : ℕ) → before < d.actions → {left : Level}
-    → IsLevel (length level.known.items) left → {action : ℕ} → action ≡ before + 1
-    → IsChosenAt depth d.step action level left
-    → IsSearched g player all faster left (depth + 1) (number + before * (count / d.actions))
-    (count / d.actions)
-next_searched {g} {player} {number} {count} {depth} {all} {faster} {level} {d} below before less
-    levelled is chosen =
-    let here = digit_here all depth d faster below.rest in
-    record {
-      all_are = below.all_are;
-      rest = here.1;
-      deep = omega (arith, here.0);
-      told = next_told_at below.told before less levelled is depth
-          (is_settled g player all (depth + 1)) chosen (λ n j from to.
-          settled_more (is_relevant_at g player n (digit_at all j).place)
-          (get_or (numbered g player n) (digit_at all j).place 0) j depth before
-          (λ e. ap (λ (i : ℕ). get_or (numbered g player n) (digit_at all i).place 0) e
-          ∙ ap (λ (d : OwnDigit). get_or (numbered g player n) d.place 0) here.2
-          ∙ chosen_there below.told.choices before less n from to));
-    }
+module _ {g : Game} {player : ℕ} {all : List OwnDigit} {d : OwnDigit} {faster : List OwnDigit}
+    {level : Level} {depth number count : ℕ}
+    (below : IsSearched g player all (d ∷ faster) level depth number count) where
+  abbrev row : ℕ
+  row = count / d.actions
+
+  left_over : (n : ℕ) → number ≤ n → n < number + count → n % count ≡ n - number
+  left_over n from to =
+      let is : n ≡ below.row * count + (n - number) = omega (arith, below.start, from) in
+      ap (λ m. m % count) is ∙ mod-mul-add below.row count (n - number) (omega (arith, from, to))
+
+  -- an action other than the first is chosen after the first row
+  moved : (n : ℕ) → number + row ≤ n → n < number + count
+      → ¬ (get_or (numbered g player n) d.place 0 ≡ 1)
+  moved n from to first =
+      let here = chosen_here below.turn n (omega (arith, to, below.end)) in
+      let low : n % count / row < 1 = omega (arith, here, first) in
+      let upto = (div-lt_iff_lt-mul (each_some below.turn)).0 low in
+      omega (arith, upto, left_over n (omega (arith, from)) to, from)
+
+  row_end : (before : ℕ) → before < d.actions → before * row + row ≤ count
+  row_end before less = grind (arith, rows_are below.turn, mul-le-mul_right)
+
+  chosen_there : (before n : ℕ) → before < d.actions → number + before * row ≤ n
+      → n < number + before * row + row → get_or (numbered g player n) d.place 0 ≡ before + 1
+  chosen_there before n less from to =
+      let end = row_end before less in
+      let here = chosen_here below.turn n (omega (arith, to, end, below.end)) in
+      let over = left_over n (omega (arith, from)) (omega (arith, to, end)) in
+      let is : n - number ≡ before * row + (n - number - before * row) = omega (arith, from) in
+      here ∙ ap (λ m. m / row + 1) (over ∙ is)
+      ∙ ap (λ m. m + 1) (div-mul-add before row (n - number - before * row) (omega (arith, from, to)))
+
+  pub next_searched : (before : ℕ) → before < d.actions → {left : Level}
+      → IsLevel (length level.known.items) left → {action : ℕ} → action ≡ before + 1
+      → IsChosenAt depth d.step action level left
+      → IsSearched g player all faster left (depth + 1) (number + before * row) row
+  next_searched before less levelled is chosen =
+      let here = digit_here all depth d faster below.rest in
+      let rows = ap (λ n. below.row * n) (sym (rows_are below.turn))
+      ∙ sym (mul_assoc below.row d.actions row) in
+      let end = row_end before less in record {
+        all_are = below.all_are;
+        rest = here.1;
+        deep = omega (arith, here.0);
+        turn = turn_next below.turn;
+        row = below.row * d.actions + before;
+        start = grind (arith, below.start, rows);
+        end = omega (arith, end, below.end);
+        few = below.few;
+        levelled = rw below.levelled.counted at levelled;
+        tells = λ n j from to among.
+            let there = chosen_there before n less from to in
+            let left_is = chosen j (steps_to faster) (choices_at g player faster n)
+            (omega (arith, among, below.levelled.counted)) (steps_positive faster below.turn.fine.1) in
+            let old = below.tells n j (omega (arith, from)) (omega (arith, to, end)) among in
+            let more = settled_more (is_relevant_at g player n (digit_at all j).place)
+            (get_or (numbered g player n) (digit_at all j).place 0) j depth before in
+            grind (arith, there, left_is, old, more, is, here.2);
+      }
 
 -- ---- sets that can be met
 
@@ -254,28 +242,26 @@ module _ (g : Game) (game : IsGame g) (player : ℕ) where
     module _ {left : List OwnDigit} {level : Level} {depth number count : ℕ}
         (below : IsSearched g player digits left level depth number count) where
       within_all : (n : ℕ) → n < number + count → n < length all
-      within_all n to = omega (arith, to, below.told.choices.end)
+      within_all n to = omega (arith, to, below.end)
 
       -- all sets of digits are known to be met
       pub known_firsts : ((k : ℕ) → k < length level.known.items
           → get_or level.known.items k false ≡ true) → AreFirstBelow g player number count
       known_firsts known n from to =
           settled_first depth n (within_all n to)
-          (λ j early. below.told.tells n j from to early
-          ∙ grind (arith, known j, below.told.levelled.counted))
+          (λ j early. below.tells n j from to early
+          ∙ grind (arith, known j, below.levelled.counted))
 
       module _ {met : List Bool} (marks : Marks level met) where
         unmet_flag : (n j : ℕ) → number ≤ n → n < number + count → j < length digits
             → get_or met j false ≡ false → is_settled g player digits depth n j ≡ false
         unmet_flag n j from to among unmet =
-            below.told.tells n j from to among
+            below.tells n j from to among
             ∙ unmet_left j _ _ level
-            (sym (marks.marked j (omega (arith, among, below.told.levelled.counted))) ∙ unmet)
+            (sym (marks.marked j (omega (arith, among, below.levelled.counted))) ∙ unmet)
 
         taken : length (take depth met) ≡ depth
-        taken =
-            length-take-le depth met
-            (omega (arith, marks.counted, below.told.levelled.counted, below.deep))
+        taken = grind (arith, length-take-le)
 
         -- none is found if a set cannot be met at which a digit is chosen
         pub none_found : (j : ℕ) × (j < length (take depth met))
@@ -284,7 +270,7 @@ module _ (g : Game) (game : IsGame g) (player : ℕ) where
         none_found (j, inside, shut) numbers found =
             let early : j < depth = omega (arith, inside, taken) in
             let among : j < length digits = omega (arith, early, below.deep) in
-            passed_by g game player numbers number count found below.told.choices.end
+            passed_by g game player numbers number count found below.end
             (λ n from to. unsettled depth n j (within_all n to) among
             (unmet_flag n j from to among (sym (get_or-take depth met j false early) ∙ shut))
             early)
@@ -298,11 +284,11 @@ module _ (g : Game) (game : IsGame g) (player : ℕ) where
             omega (arith, ap length (below.rest ∙ none), length-drop depth digits) in
             settled_first depth n (within_all n to) (λ j early.
             let inside : j < depth = omega (arith, early, end) in
-            below.told.tells n j from to early
+            below.tells n j from to early
             ∙ ap (λ (ds : List OwnDigit).
             is_left j (steps_to ds) (choices_at g player ds n) level) none
             ∙ left_all j level
-            ∙ sym (marks.marked j (omega (arith, early, below.told.levelled.counted)))
+            ∙ sym (marks.marked j (omega (arith, early, below.levelled.counted)))
             ∙ sym (get_or-take depth met j false inside)
             ∙ all_met j (omega (arith, inside, taken)))
 
@@ -319,24 +305,24 @@ module _ (g : Game) (game : IsGame g) (player : ℕ) where
         let row = count / d.actions in
         let here = digit_here digits depth d faster below.rest in
         elim (cases_Bool (get_or met depth false)) [
-          | inl e ↦ rw (all_rows below.told.choices) at (rw (tried_is, e) at found)
+          | inl e ↦ rw (rows_are below.turn) at (rw (tried_is, e) at found)
           | inr e ↦
               let one : number + 1 * row ≡ number + row = omega arith in
-              let some = some_actions below.told.choices in
+              let some = some_actions below.turn in
               let end : number + row + (count - row) ≡ number + count =
-              omega (arith, all_rows below.told.choices, some, mul-le-mul_right row some) in
+              omega (arith, rows_are below.turn, some, mul-le-mul_right row some) in
               rw end at (passed_by g game player numbers (number + row) (count - row)
-              (rw one at (rw (tried_is, e) at found)) (omega (arith, end, below.told.choices.end))
+              (rw one at (rw (tried_is, e) at found)) (omega (arith, end, below.end))
               (λ n from to.
               let before_end : n < number + count = omega (arith, to, end) in
-              let within : n < length all = omega (arith, before_end, below.told.choices.end) in
+              let within : n < length all = omega (arith, before_end, below.end) in
               let flag = unmet_flag below marks n depth (omega (arith, from)) before_end here.0 e in
               let at : (digit_at digits depth).place ≡ d.place =
               ap (λ (d : OwnDigit). d.place) here.2 in
               repeated g game player n d.place within
               (subst (λ (q : ℕ). q < length counts) at (place_inside depth here.0))
               (grind (arith, flag, at))
-              (moved below.told.choices n from before_end)))
+              (moved below n from before_end)))
         ]
 
 pub ruleset search_steps = (some_actions, step_fits, nil_from_length)

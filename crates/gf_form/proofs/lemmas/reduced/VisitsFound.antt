@@ -38,8 +38,7 @@ pub visit_there : (g : Game) → IsGame g → (player demands position : ℕ) (k
     → key.player ≡ player → at_position (player_keys g player) position ≡ Some key
     → own_visit g player demands key ≡ Some (record { demands = demands; set = position - 1 })
 visit_there g game player demands position key his at =
-    let there = place_there (player_keys g player) position key (keys_distinct g game player) at in
-    grind (arith, his, eq-eqb)
+    grind (arith, place_there, keys_distinct, eq-eqb)
 
 pub no_visit : (g : Game) (player mover demands : ℕ) (key : SetKey) → key.player ≡ mover
     → (mover == player) ≡ false → own_visit g player demands key ≡ None

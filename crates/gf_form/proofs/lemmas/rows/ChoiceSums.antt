@@ -1,25 +1,21 @@
 -- Terms that are added up for each choice of an action at each digit.
-use Rattle.gf_form.proofs.Common.{mul-le-mul_right, AllByRecursion, with_demands, all_choices, List}
-use Rattle.gf_form.proofs.Common.{first_terms, AreExactAt, all_images, all_weaker, append-nil, OnOk}
-use Rattle.gf_form.proofs.Common.{map-append, AreMerged, EndsBelow, IsExactAt, all_parts, all_terms}
-use Rattle.gf_form.proofs.Common.{map_twice, AreAlike, all_both, cases_lt, steps_of, lowered, Asked}
-use Rattle.gf_form.proofs.Common.{product, ComeTo, get_or, length, Terms, arith, meets, spans, Term}
-use Rattle.gf_form.proofs.Common.{subst, ints, part, refl, true, zero, ◌++◌, Err, Run, inl, inr, []}
-use Rattle.gf_form.proofs.Common.{map, suc, sym, ◌*◌, ◌+◌, ◌-◌, ◌<◌, ◌∙◌, ◌∷◌, ◌≡◌, ◌≤◌, ◌⊎◌, ℕ}
-use Rattle.std.specs.Prelude.{Ok, Result}
-use Rattle.std.proofs.lemmas.List.{append_assoc, take_rest}
-use Rattle.gf_form.specs.declared.rows.digits.Digit.{Digit}
-use Rattle.gf_form.specs.inner.rows.GameDigits.{actions_at}
-use Rattle.gf_form.specs.inner.rows.TermLists.{AreInOrder, CountsBelow}
-use Rattle.gf_form.specs.inner.rows.ChoiceSums.{AddUpTo, AreActions, AreAddedUp, HasSums, raised}
-use Rattle.gf_form.specs.inner.rows.SettledRows.{SettleBy}
+use Rattle.gf_form.proofs.Common
+use Common.{mul-le-mul_right, AllByRecursion, with_demands, CountsBelow, all_choices, first_terms}
+use Common.{AreExactAt, AreInOrder, actions_at, all_images, all_weaker, append-nil, map-append, Err}
+use Common.{AreMerged, EndsBelow, IsExactAt, all_parts, all_terms, map_twice, take_rest, AreAlike}
+use Common.{SettleBy, all_both, cases_lt, steps_of, lowered, product, ComeTo, get_or, length, Asked}
+use Common.{Digit, Terms, arith, meets, spans, subst, List, OnOk, Term, ints, part, refl, true, Run}
+use Common.{zero, ◌++◌, inl, inr, map, suc, sym, ◌*◌, ◌+◌, ◌-◌, ◌<◌, ◌∙◌, ◌∷◌, ◌≡◌, ◌≤◌, ◌⊎◌, [], ℕ}
+use Rattle.std.specs.Prelude.{Result, Ok}
+use Rattle.std.proofs.lemmas.List.{append_assoc}
+use Rattle.gf_form.specs.inner.rows.ChoiceSums.{AreActions, AreAddedUp, AddUpTo, HasSums, raised}
 use Rattle.gf_form.proofs.lemmas.rows.GameDigits.{choice_at_number}
-use Rattle.gf_form.proofs.lemmas.rows.MergedTerms.{come_moved, come_none, come_to_both, free_met}
-use Rattle.gf_form.proofs.lemmas.rows.MergedTerms.{other_unmet, raised_met, sum_append, IsFree}
-use Rattle.gf_form.proofs.lemmas.rows.MergedTerms.{IsOther, IsOwn}
+use Rattle.gf_form.proofs.lemmas.rows.MergedTerms.{come_to_both, other_unmet, come_moved, come_none}
+use Rattle.gf_form.proofs.lemmas.rows.MergedTerms.{raised_met, sum_append, free_met, IsOther, IsOwn}
+use Rattle.gf_form.proofs.lemmas.rows.MergedTerms.{IsFree}
 use Rattle.gf_form.proofs.lemmas.rows.Digits.{spans_above}
 use Rattle.gf_form.proofs.lemmas.rows.FlatRows.{terms_count}
-use Rattle.gf_form.proofs.lemmas.rows.Merges.{cut, lowered_none, range}
+use Rattle.gf_form.proofs.lemmas.rows.Merges.{lowered_none, range, cut}
 use Rattle.gf_form.proofs.lemmas.rows.PairRows.{free_met as zero_met}
 
 -- ---- by way of others

@@ -2,28 +2,25 @@
 -- meets, choices meet the demands of those that a walk by the choices meets.
 use Rattle.gf_form.proofs.Common
 use Common.{game_of_branches, AllByRecursion, InformationSet, branches_given, branches_left, IsGame}
-use Common.{if◌then◌else◌, append_assoc, mod-eq_of_lt, HasChildren, MatchOption, at_position, Trees}
-use Common.{child_trees, descent_all, flatten_all, player_keys, option_map, AreDigits, ArePlaced, ℕ}
-use Common.{all_parts, demanding, eqb-false, root_node, Entering, choosing, comes_by, demanded, map}
-use Common.{eqb-true, steps_of, Handing, descent, flatten, game_of, list_of, stop_at, tree_of, Bool}
-use Common.{Option, SetKey, branch, eq-eqb, get_or, length, set_at, arith, count, false, meets, not}
-use Common.{Game, List, Node, None, Some, Stop, Tree, kept, more, none, refl, true, ◌&&◌, ◌++◌, set}
-use Common.{◌==◌, ◌||◌, suc, sym, ◌%◌, ◌*◌, ◌+◌, ◌^◌, ◌∙◌, ◌∷◌, ◌≡◌, ◌≤◌, [], ap}
-use Rattle.gf_form.specs.inner.rows.Descents.{demands_below, below, open_stops, open_turns, step_at}
-use Rattle.gf_form.specs.inner.rows.Descents.{steps_by, stops, turns}
-use Rattle.gf_form.proofs.lemmas.values.Walks.{trees_of_list, choice_is, choice_there}
+use Common.{demands_below, if◌then◌else◌, option_map_or, append_assoc, mod-eq_of_lt, HasChildren, ℕ}
+use Common.{MatchOption, at_position, child_trees, descent_all, flatten_all, player_keys, AreDigits}
+use Common.{open_stops, open_turns, option_map, ArePlaced, all_parts, demanding, eqb-false, Handing}
+use Common.{root_node, Entering, choosing, comes_by, demanded, eqb-true, steps_by, steps_of, Option}
+use Common.{trees_of, descent, flatten, game_of, list_of, step_at, stop_at, tree_of, SetKey, branch}
+use Common.{eq-eqb, get_or, length, set_at, Trees, arith, below, count, false, meets, stops, turns}
+use Common.{Bool, Game, List, Node, None, Some, Stop, Tree, kept, more, none, refl, true, ◌&&◌, map}
+use Common.{◌++◌, ◌==◌, ◌||◌, not, set, suc, sym, ◌%◌, ◌*◌, ◌+◌, ◌^◌, ◌∙◌, ◌∷◌, ◌≡◌, ◌≤◌, [], ap}
+use Rattle.gf_form.proofs.lemmas.values.Walks.{trees_of_list, choice_there, choice_is}
 use Rattle.gf_form.proofs.lemmas.strategies.Lookups.{keys_distinct}
 use Rattle.gf_tree.specs.declared.game.branch.Branch.{Branch}
-use Rattle.gf_form.specs.inner.values.Values.{trees_of}
 use Rattle.gf_tree.specs.declared.game.branches.Branches.{Branches}
 use Rattle.gf_form.specs.declared.rows.descent.Open.{Open}
 use Rattle.gf_form.specs.declared.rows.descent.Steps.{Steps}
 use Rattle.gf_form.specs.declared.rows.descent.Steps.TheVariants.{All, Own}
-use Rattle.std.specs.Option.{option_map_or}
 use Rattle.std.proofs.Math.Nat.{div-zero}
-use Rattle.gf_form.proofs.lemmas.rows.Digits.{within_length, pack_below, set_within, digit_is}
-use Rattle.gf_form.proofs.lemmas.rows.Digits.{AreWithin, met_digit, meets_is, set_pack, pack}
-use Rattle.gf_form.proofs.lemmas.rows.Digits.{met_set, met}
+use Rattle.gf_form.proofs.lemmas.rows.Digits.{within_length, pack_below, set_within, AreWithin, met}
+use Rattle.gf_form.proofs.lemmas.rows.Digits.{met_digit, digit_is, meets_is, set_pack, met_set}
+use Rattle.gf_form.proofs.lemmas.rows.Digits.{pack}
 
 -- ---- what is told below a node by the list of its children
 

@@ -2,19 +2,16 @@
 -- changes, and which choices meet it; the places of sets and of their digits, and how digits are made
 -- set by set, from the fastest on.
 use Rattle.gf_form.proofs.Common
-use Common.{get_or_append_left, mul-le-mul_right, InformationSet, div-mul_cancel, length-append, []}
-use Common.{append_assoc, mod-eq_of_lt, AllZip-long, AreDigitsOf, ArePositive, steps_after, add-one}
-use Common.{append-nil, AreDigits, AreMadeOf, ArePlaced, and_parts, drop-cons, mul_above, mul_assoc}
-use Common.{cases_lt, demanded, dvd_refl, in_order, mul_comm, steps_of, product, AllZip, SetKey, ap}
-use Common.{eq-eqb, get_or, length, lt-ltb, ne_eqb, picked, set_at, Digit, arith, false, meets, inl}
-use Common.{spans, width, Bool, Game, List, Some, drop, refl, take, true, zero, ◌&&◌, ◌++◌, ◌==◌, ℕ}
-use Common.{◌||◌, inr, map, set, suc, sym, ◌%◌, ◌*◌, ◌+◌, ◌-◌, ◌/◌, ◌<◌, ◌^◌, ◌∙◌, ◌∣◌, ◌∷◌, ◌≡◌}
-use Common.{◌≤◌}
+use Common.{get_or_append_left, get_or-append-add, mul-le-mul_right, InformationSet, div-mul_cancel}
+use Common.{length-append, append_assoc, mod-eq_of_lt, AllZip-long, AreDigitsOf, ArePositive, Digit}
+use Common.{div-mul-add, steps_after, append-nil, strides_of, AreDigits, AreMadeOf, ArePlaced, Bool}
+use Common.{and_parts, drop-cons, mul_above, mul_assoc, take_more, cases_lt, demanded, dvd_refl, []}
+use Common.{in_order, map_more, map_push, mul_comm, steps_of, add-one, product, AllZip, SetKey, inl}
+use Common.{eq-eqb, get_or, length, lt-ltb, ne_eqb, picked, set_at, arith, false, meets, spans, inr}
+use Common.{width, Game, List, Some, drop, refl, take, true, zero, ◌&&◌, ◌++◌, ◌==◌, ◌||◌, map, set}
+use Common.{suc, sym, ◌%◌, ◌*◌, ◌+◌, ◌-◌, ◌/◌, ◌<◌, ◌^◌, ◌∙◌, ◌∣◌, ◌∷◌, ◌≡◌, ◌≤◌, ap, ℕ}
 use Rattle.std.proofs.lemmas.Bool.{le-leb, le-ltb, lt-leb}
-use Rattle.std.proofs.lemmas.Nat.{div-mul-add}
 use Rattle.std.proofs.Math.Nat.{add-mul-mod_self_right, dvd-mul_left_of_dvd, mul-add-div}
-use Rattle.gf_form.specs.inner.rows.DigitSteps.{strides_of}
-use Rattle.std.proofs.lemmas.List.{get_or-append-add, map_more, map_push, take_more}
 pub use Rattle.gf_form.specs.inner.rows.Demands.{pack}
 
 -- ---- numbers by their digits

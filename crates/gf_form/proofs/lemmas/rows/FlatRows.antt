@@ -1,17 +1,15 @@
 -- Rows that are made item by item, and terms whose numbers stand one row after another.
 use Rattle.gf_form.proofs.Common
-use Common.{fits_signed_from_abs, get_or-append_seam, get_or_append_left, AllByRecursion, all_terms}
-use Common.{length-take-le, length-append, first_terms, get_or_past, length-drop, take-length, Head}
-use Common.{append-nil, map-append, number_at, to_z-of_z, IsShaped, IsWithin, cases_lt, dvd_refl, ℕ}
-use Common.{take-suc, IsScale, IsSumOf, no_term, term_at, zero-*ℤ, Scaled, get_or, length, Scale, ℤ}
-use Common.{Terms, arith, false, subst, List, Term, of_z, refl, take, to_z, true, w128, zero, ◌*ℤ◌}
-use Common.{◌++◌, ◌+ℤ◌, inl, inr, map, pos, suc, sym, ◌*◌, ◌+◌, ◌/◌, ◌<◌, ◌∙◌, ◌∷◌, ◌≡◌, ◌≤◌, ◌⊎◌}
-use Common.{[], ap}
-use Rattle.std.proofs.lemmas.List.{append_assoc, drop-append-le, take-append-le, get_or_push}
+use Common.{fits_signed_from_abs, get_or-append_seam, get_or_append_left, drop-append_seam, IsNoted}
+use Common.{AllByRecursion, drop-append-le, length-take-le, take-append-le, length-append, IsFactor}
+use Common.{first_terms, get_or_past, get_or_push, length-drop, take-length, append-nil, map-append}
+use Common.{all_terms, number_at, to_z-of_z, IsShaped, IsWithin, cases_lt, div_self, dvd_refl, Head}
+use Common.{take-suc, IsScale, IsSumAt, IsSumOf, no_term, term_at, zero-*ℤ, Scaled, get_or, length}
+use Common.{Scale, Terms, arith, false, subst, List, Term, of_z, refl, take, to_z, true, w128, zero}
+use Common.{◌*ℤ◌, ◌++◌, ◌+ℤ◌, inl, inr, map, pos, suc, sym, ◌*◌, ◌+◌, ◌/◌, ◌<◌, ◌∙◌, ◌∷◌, ◌≡◌, ◌≤◌}
+use Common.{◌⊎◌, [], ap, ℕ, ℤ}
+use Rattle.std.proofs.lemmas.List.{append_assoc}
 use Rattle.gf_form.specs.inner.rows.ItemRows.{HasRow}
-use Rattle.std.proofs.Math.Nat.{div_self}
-use Rattle.std.proofs.Math.Seq.{drop-append_seam}
-use Rattle.gf_form.specs.inner.rows.TermLists.{IsFactor, IsNoted, IsSumAt}
 
 -- ---- rows that are made item by item
 

@@ -5,29 +5,27 @@ use Common.{unwrap_or-slice_get, div-lt_iff_lt-mul, pos_of_dvd_of_pos, length-pr
 use Common.{InformationSet, description_at, get_or_default, action_counts, digit_actions, AreCounts}
 use Common.{full_profiles, strategies_at, mod-eq_of_lt, AreDistinct, ArePositive, all_choices, Bool}
 use Common.{is_personal, mod-add-div, player_keys, player_sets, steps_after, choices_by, length-map}
-use Common.{mul-le-mul, option_map, players_of, strategies, AreDigits, AreMadeOf, ArePlaced, Counts}
-use Common.{Described, HasDigits, choice_at, none-some, slice_get, all_both, dvd_refl, in_order, []}
-use Common.{mul_comm, same_set, add-one, product, Digits, IsGame, SetKey, eq-eqb, get_or, length, ℕ}
-use Common.{mod-lt, picked, set_at, arith, false, subst, width, Game, List, Some, cond, find, refl}
-use Common.{take, true, zero, ◌++◌, map, suc, sym, ◌%◌, ◌*◌, ◌+◌, ◌-◌, ◌/◌, ◌<◌, ◌^◌, ◌∙◌, ◌∣◌, ◌∷◌}
-use Common.{◌≡◌, ◌≤◌, ap}
-use Rattle.gf_form.proofs.lemmas.strategies.Choices.{IsChoice, are_choices, length-all_choices}
+use Common.{mul-le-mul, option_map, players_of, strategies, strides_of, AreDigits, AreMadeOf, arith}
+use Common.{ArePlaced, Described, HasDigits, choice_at, none-some, slice_get, all_both, dvd_refl, ℕ}
+use Common.{in_order, mul_comm, same_set, take-map, add-one, product, Counts, Digits, IsGame, false}
+use Common.{SetKey, eq-eqb, get_or, length, mod-lt, picked, set_at, subst, width, Game, List, Some}
+use Common.{cond, find, refl, take, true, zero, ◌++◌, map, suc, sym, ◌%◌, ◌*◌, ◌+◌, ◌-◌, ◌/◌, ◌<◌}
+use Common.{◌^◌, ◌∙◌, ◌∣◌, ◌∷◌, ◌≡◌, ◌≤◌, [], ap}
+use Rattle.gf_form.proofs.lemmas.strategies.Choices.{length-all_choices, are_choices, IsChoice}
 use Rattle.gf_form.proofs.lemmas.strategies.Choices.{long}
-use Rattle.gf_form.proofs.lemmas.strategies.CountedActions.{product_positive, actions_positive}
-use Rattle.gf_form.proofs.lemmas.strategies.CountedActions.{actions_in, as_many_players, of_player}
-use Rattle.gf_form.proofs.lemmas.strategies.CountedActions.{product_more, product_within}
-use Rattle.gf_form.proofs.lemmas.strategies.CountedActions.{strategies_positive, strategy_counts}
-use Rattle.gf_form.proofs.lemmas.rows.Digits.{product_joined, player_order, among_all, as_long}
-use Rattle.gf_form.proofs.lemmas.rows.Digits.{are_digits, faster_part}
+use Rattle.gf_form.proofs.lemmas.strategies.CountedActions.{strategies_positive, actions_positive}
+use Rattle.gf_form.proofs.lemmas.strategies.CountedActions.{product_positive, as_many_players}
+use Rattle.gf_form.proofs.lemmas.strategies.CountedActions.{strategy_counts, product_within}
+use Rattle.gf_form.proofs.lemmas.strategies.CountedActions.{product_more, actions_in, of_player}
+use Rattle.gf_form.proofs.lemmas.rows.Digits.{product_joined, player_order, faster_part, are_digits}
+use Rattle.gf_form.proofs.lemmas.rows.Digits.{among_all, as_long}
 use Rattle.std.proofs.Math.Nat.{dvd-mul_left_of_dvd}
-use Rattle.gf_form.proofs.lemmas.strategies.PickedProfiles.{numbered, numbered_strategies}
-use Rattle.gf_form.proofs.lemmas.strategies.StrategiesByNumber.{all_at, choices_next, joined_at}
-use Rattle.gf_form.proofs.lemmas.strategies.StrategiesByNumber.{positive_parts}
-use Rattle.std.proofs.lemmas.List.{take-map}
-use Rattle.gf_form.proofs.lemmas.strategies.Chosen.{among_his, have_actions, nothing_chosen}
-use Rattle.gf_form.proofs.lemmas.strategies.Chosen.{profile_strategies}
-use Rattle.gf_form.specs.inner.rows.DigitSteps.{strides_of}
-use Rattle.gf_form.proofs.lemmas.strategies.Lookups.{keys_distinct, set_is, strategy_before}
+use Rattle.gf_form.proofs.lemmas.strategies.PickedProfiles.{numbered_strategies, numbered}
+use Rattle.gf_form.proofs.lemmas.strategies.StrategiesByNumber.{positive_parts, choices_next}
+use Rattle.gf_form.proofs.lemmas.strategies.StrategiesByNumber.{joined_at, all_at}
+use Rattle.gf_form.proofs.lemmas.strategies.Chosen.{profile_strategies, nothing_chosen, among_his}
+use Rattle.gf_form.proofs.lemmas.strategies.Chosen.{have_actions}
+use Rattle.gf_form.proofs.lemmas.strategies.Lookups.{strategy_before, keys_distinct, set_is}
 use Rattle.gf_form.proofs.lemmas.values.Walks.{choice_there}
 
 -- ---- the choices of the profile with a number

@@ -4,17 +4,15 @@ use Rattle.gf_form.proofs.Common
 use Common.{All-from_recursion, recursion_from_All, IsNonDecreasingBy, mul-le-mul_right, AreExactAt}
 use Common.{unsigned_abs-mul, All-permutation, AllByRecursion, get_or_default, IsPermutation, Ratio}
 use Common.{if◌then◌else◌, mul_pos_right, sum_of_shares, sum_of_terms, unsigned_abs, AreOrdered, []}
-use Common.{AreTermsOf, ComeAsWell, all_images, map-append, met_bounds, node_terms, EndsBelow, Bool}
-use Common.{IsExactAt, all_parts, all_terms, dvd_trans, mul_above, node_term, number_at, IsShaped}
-use Common.{all_both, *ℤ-zero, ArePaid, IsSumOf, one-dvd, term_of, zero-*ℤ, add-*ℤ, get_or, length}
-use Common.{pay_at, Terms, arith, false, meets, subst, Game, List, Path, Term, drop, ints, refl, ap}
-use Common.{take, true, zero, ◌*ℤ◌, ◌++◌, ◌+ℤ◌, ◌==◌, pos, suc, sym, ◌*◌, ◌+◌, ◌-◌, ◌/◌, ◌<◌, ◌∙◌}
-use Common.{◌∣◌, ◌∷◌, ◌≡◌, ◌≤◌, ℕ, ℤ}
-use Rattle.std.proofs.Math.Seq.{take-add}
-use Rattle.gf_form.specs.inner.rows.ListedNodes.{IsTermMore, HasShares, Tells}
+use Common.{AreTermsOf, ComeAsWell, IsTermMore, all_images, map-append, met_bounds, node_terms, pos}
+use Common.{EndsBelow, HasShares, IsExactAt, all_parts, all_terms, dvd_trans, mul_above, node_term}
+use Common.{number_at, IsShaped, all_both, take-add, *ℤ-zero, ArePaid, IsSumOf, one-dvd, term_of, ℕ}
+use Common.{zero-*ℤ, add-*ℤ, get_or, length, pay_at, sum_by, Tells, Terms, arith, false, meets, suc}
+use Common.{subst, Bool, Game, List, Path, Term, drop, ints, refl, take, true, zero, ◌*ℤ◌, ◌++◌, ap}
+use Common.{◌+ℤ◌, ◌==◌, sym, ◌*◌, ◌+◌, ◌-◌, ◌/◌, ◌<◌, ◌∙◌, ◌∣◌, ◌∷◌, ◌≡◌, ◌≤◌, ℤ}
 use Rattle.gf_form.proofs.lemmas.rows.Merges.{ordered_more, below_more, all_in}
-use Rattle.gf_form.proofs.lemmas.rows.MergedTerms.{come_none, size_append, sum_append, scaled}
-use Rattle.gf_form.proofs.lemmas.rows.MergedTerms.{both_come, come_both, same_come}
+use Rattle.gf_form.proofs.lemmas.rows.MergedTerms.{size_append, sum_append, both_come, come_both}
+use Rattle.gf_form.proofs.lemmas.rows.MergedTerms.{come_none, same_come, scaled}
 use Rattle.std.specs.List.Retain.{DedupsFrom, IsDeduped}
 use Rattle.std.proofs.lemmas.List.Sorted.{sum_by-IsPermutation, IsPermutation-map}
 use Rattle.std.proofs.lemmas.List.Sorted.{IsPermutation-sym}
@@ -22,7 +20,6 @@ use Rattle.gf_form.specs.inner.rows.SummedNodes.{HaveSharesOf, IsNodeSum, IsPath
 use Rattle.gf_fraction.proofs.Offered.{*ℤ_right_comm, mul_pos_left}
 use Rattle.std.proofs.Math.Nat.{mul-div-mul_right, mul-dvd-mul_right}
 use borrow.Author.Differences.{sum_is_lem, same_in, down, up}
-use Rattle.std.specs.List.{sum_by}
 use Rattle.std.proofs.lemmas.List.Sums.{sum_by-cons}
 
 -- ---- the shares of nodes

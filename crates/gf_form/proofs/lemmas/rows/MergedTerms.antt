@@ -5,17 +5,15 @@ use Common.{lowest_of-fraction, pos_of_dvd_of_pos, unsigned_abs-mul, *ℤ-cancel
 use Common.{product_of-some, AllByRecursion, IsLcm-from_gcd, div-mul_cancel, if◌then◌else◌, IsEqual}
 use Common.{mul_pos_right, dvd-mul_left, sum_of_terms, unsigned_abs, with_demands, sum_of-some, map}
 use Common.{AreExactAt, ComeAsWell, IsFraction, append-nil, equal_refl, false≢true, product_of, pos}
-use Common.{scaled_num, AreMerged, IsExactAt, IsProduct, all_parts, dvd_trans, mul_above, number_at}
-use Common.{plus_both, *ℤ_assoc, +ℤ_assoc, HasValue, IsWithin, all_both, IsSumOf, SumFits, lowered}
-use Common.{zero-*ℤ, +ℤ_idl, ComeTo, add-*ℤ, mod-lt, sum_of, ◌then◌, IsLcm, IsSum, Ratio, arith, []}
-use Common.{false, meets, subst, times, Bool, List, Some, Term, back, ints, plus, refl, true, zero}
-use Common.{◌*ℤ◌, ◌++◌, ◌+ℤ◌, suc, sym, ◌%◌, ◌*◌, ◌+◌, ◌-◌, ◌/◌, ◌<◌, ◌^◌, ◌∙◌, ◌∣◌, ◌∷◌, ◌≡◌, ◌≤◌}
-use Common.{◌⊎◌, ap, ℕ, ℤ}
-use Rattle.std.specs.Int.{IsGcd}
+use Common.{scaled_num, AreMerged, IsExactAt, IsProduct, all_parts, dvd_trans, lowest_of, mul_above}
+use Common.{number_at, plus_both, *ℤ_assoc, +ℤ_assoc, HasValue, IsWithin, all_both, IsSumOf, +ℤ_idl}
+use Common.{SumFits, lowered, zero-*ℤ, ComeTo, add-*ℤ, mod-lt, sum_of, ◌then◌, IsGcd, IsLcm, IsSum}
+use Common.{Ratio, arith, false, meets, subst, times, Bool, List, Some, Term, back, ints, plus, suc}
+use Common.{refl, true, zero, ◌*ℤ◌, ◌++◌, ◌+ℤ◌, sym, ◌%◌, ◌*◌, ◌+◌, ◌-◌, ◌/◌, ◌<◌, ◌^◌, ◌∙◌, ◌∣◌, ℕ}
+use Common.{◌∷◌, ◌≡◌, ◌≤◌, ◌⊎◌, [], ap, ℤ}
 use Rattle.std.proofs.lemmas.Nat.Gcd.{IsGcd-from_zero, IsGcd-from_mod, IsGcd-swap, le_of_dvd}
-use Rattle.gf_fraction.specs.Offered.{lowest_of}
-use Rattle.gf_fraction.proofs.Offered.{lowest_of-value, dvd_of_dvd-mul, *-cancel_right}
-use Rattle.gf_fraction.proofs.Offered.{mul_pos_left, same_parts, times_both}
+use Rattle.gf_fraction.proofs.Offered.{lowest_of-value, *-cancel_right, dvd_of_dvd-mul, same_parts}
+use Rattle.gf_fraction.proofs.Offered.{mul_pos_left, times_both}
 
 -- ---- quotients
 

@@ -2,28 +2,25 @@
 -- fastest digit, as what at most two terms come to.
 use Rattle.gf_form.proofs.Common
 use Common.{mul-le-mul_right, asked_profiles, mul-div_cancel, full_profiles, strategies_at, IsScale}
-use Common.{ArePayoffsAt, one_fraction, IsSpellable, all_choices, first_terms, AreWritten, all_both}
-use Common.{HasPairRow, IsFraction, IsPaidPair, actions_at, choices_by, zero_ratio, AreChosen, Game}
-use Common.{AreMerged, HasValues, SettlesAt, all_terms, at_place, cases_lt, steps_of, Settles, List}
-use Common.{lowered, product, term_at, Chosen, IfSome, IsGame, get_or, length, Asked, Digit, Ratio}
-use Common.{Scale, Terms, arith, meets, spans, value, Some, Term, ints, lit<, part, true, zero, Run}
-use Common.{◌*ℤ◌, ◌++◌, ◌+ℤ◌, inl, inr, map, pos, suc, ◌*◌, ◌+◌, ◌-◌, ◌/◌, ◌<◌, ◌^◌, ◌∙◌, ◌∷◌, ◌≡◌}
-use Common.{◌≤◌, ◌⊎◌, [], ap, ℕ, ℤ}
-use Rattle.gf_form.specs.inner.rows.GameDigits.{HaveSteps}
-use Rattle.gf_form.specs.inner.rows.SettledRows.{AreTermsFor, SettleBy}
-use Rattle.gf_form.proofs.lemmas.strategies.StrategiesByNumber.{choices_row, positive_parts}
-use Rattle.gf_form.proofs.lemmas.form.Forms.{all_more, one_row_more}
+use Common.{ArePayoffsAt, one_fraction, AreTermsFor, IsSpellable, all_choices, first_terms, Settles}
+use Common.{AreNodesOf, AreWritten, HasPairRow, IsFraction, IsPaidPair, actions_at, choices_by, Run}
+use Common.{zero_ratio, AreChosen, AreMerged, HasValues, HaveSteps, SettlesAt, all_terms, SettleBy}
+use Common.{all_both, at_place, cases_lt, steps_of, lowered, product, term_at, Chosen, IfSome, Game}
+use Common.{IsGame, get_or, length, Asked, Digit, Ratio, Scale, Terms, arith, meets, spans, value}
+use Common.{List, Some, Term, ints, lit<, part, true, zero, ◌*ℤ◌, ◌++◌, ◌+ℤ◌, inl, inr, map, pos, ℕ}
+use Common.{suc, ◌*◌, ◌+◌, ◌-◌, ◌/◌, ◌<◌, ◌^◌, ◌∙◌, ◌∷◌, ◌≡◌, ◌≤◌, ◌⊎◌, [], ap, ℤ}
+use Rattle.gf_form.proofs.lemmas.strategies.StrategiesByNumber.{positive_parts, choices_row}
+use Rattle.gf_form.proofs.lemmas.form.Forms.{one_row_more, all_more}
 use Rattle.gf_form.specs.declared.rows.written.Written.{Written}
-use Rattle.gf_form.specs.inner.rows.Pairs.{ComeToPair, IsOnly, IsPair, only_term}
+use Rattle.gf_form.specs.inner.rows.Pairs.{ComeToPair, only_term, IsOnly, IsPair}
 use Rattle.gf_form.specs.declared.rows.pairs.Only.{Only}
 use Rattle.gf_form.specs.declared.rows.pairs.Pair.{Pair}
 use Rattle.gf_form.proofs.lemmas.rows.Digits.{spans_above}
-use Rattle.gf_form.proofs.lemmas.rows.FlatRows.{terms_count, there, all_by_place}
+use Rattle.gf_form.proofs.lemmas.rows.FlatRows.{all_by_place, terms_count, there}
 use Rattle.gf_form.proofs.lemmas.rows.MergedTerms.{sum_append}
 use Rattle.gf_form.proofs.lemmas.rows.Merges.{chosen_parts, part_next, part_past}
 use Rattle.gf_form.proofs.lemmas.strategies.PickedProfiles.{numbered_at}
 use Rattle.gf_form.proofs.lemmas.values.BottomUp.{are_payoffs, have_values}
-use Rattle.gf_form.specs.inner.values.NodeLists.{AreNodesOf}
 
 -- ---- profiles at which the choice at the slowest digit is the same
 

@@ -3,23 +3,22 @@
 use Rattle.gf_form.proofs.Common
 use Common.{AreProfileNumbers, *ℤ-cancel_right, AllByRecursion, div-mul_cancel, digit_actions, Bool}
 use Common.{full_profiles, if◌then◌else◌, strategies_at, paid_reached, sum_of_terms, unsigned_abs}
-use Common.{IsSpellable, all_choices, first_terms, AreExactAt, AreOrdered, AreTermsOf, ComeAsWell}
-use Common.{choices_by, node_terms, zero_ratio, HasDigits, SettlesAt, all_parts, all_terms, ArePaid}
-use Common.{number_at, root_path, *ℤ_assoc, AreAlike, IsShaped, all_both, dvd_refl, steps_of, Ratio}
-use Common.{Settles, add-one, is_paid, lowered, one-dvd, reached, term_at, term_of, zero-*ℤ, Digits}
-use Common.{Global, IsGame, add-*ℤ, get_or, length, pay_at, row_at, Terms, arith, false, meets, Vec}
-use Common.{subst, Game, List, Path, Term, ints, refl, true, zero, ◌*ℤ◌, ◌++◌, ◌+ℤ◌, map, pos, suc}
-use Common.{sym, ◌*◌, ◌+◌, ◌-◌, ◌/◌, ◌<◌, ◌^◌, ◌∙◌, ◌∣◌, ◌∷◌, ◌≡◌, ◌≤◌, [], ap, ℕ, ℤ}
+use Common.{IsSpellable, all_choices, first_terms, AreExactAt, AreInOrder, AreOrdered, AreTermsOf}
+use Common.{ComeAsWell, choices_by, node_terms, zero_ratio, HasDigits, SettlesAt, all_parts, Digits}
+use Common.{all_terms, number_at, root_path, *ℤ_assoc, AreAlike, IsShaped, all_both, div_self, Game}
+use Common.{dvd_refl, steps_of, ArePaid, MayCome, Settles, add-one, is_paid, lowered, one-dvd, List}
+use Common.{reached, term_at, term_of, zero-*ℤ, Global, IsGame, add-*ℤ, get_or, length, pay_at, Vec}
+use Common.{row_at, Ratio, Terms, arith, false, meets, subst, Path, Term, ints, refl, true, zero, ℕ}
+use Common.{◌*ℤ◌, ◌++◌, ◌+ℤ◌, map, pos, suc, sym, ◌*◌, ◌+◌, ◌-◌, ◌/◌, ◌<◌, ◌^◌, ◌∙◌, ◌∣◌, ◌∷◌, ◌≡◌}
+use Common.{◌≤◌, [], ap, ℤ}
 use Rattle.gf_fraction.proofs.Offered.{*ℤ_right_comm}
-use Rattle.std.proofs.Math.Nat.{div_self}
-use Rattle.gf_form.specs.inner.rows.Paying.{FitOver, IsOver, Kept, SettleAsWell, sizes_of}
-use Rattle.gf_form.specs.inner.rows.TermLists.{AreInOrder, MayCome}
+use Rattle.gf_form.specs.inner.rows.Paying.{SettleAsWell, sizes_of, FitOver, IsOver, Kept}
 use Rattle.gf_form.proofs.lemmas.rows.FlatRows.{terms_count}
 use Rattle.gf_form.proofs.lemmas.rows.MergedTerms.{none_first, sum_append, come_both, same_come}
 use Rattle.gf_form.proofs.lemmas.rows.Merges.{lowered_none, ordered_more, skips, waits}
 use Rattle.gf_form.proofs.lemmas.strategies.StrategiesByNumber.{all_at}
 use Rattle.gf_form.proofs.lemmas.values.ValuesComputed.{empty_row}
-use Rattle.gf_form.proofs.lemmas.rows.ListedTerms.{no_number, terms_of_sums}
+use Rattle.gf_form.proofs.lemmas.rows.ListedTerms.{terms_of_sums, no_number}
 use Rattle.std.specs.List.{filter}
 use Rattle.gf_form.proofs.lemmas.rows.ReachedValues.{reached_value}
 

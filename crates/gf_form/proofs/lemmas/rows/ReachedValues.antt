@@ -2,33 +2,30 @@
 -- and of a multiple. The value of a tree is the sum of the shares of the nodes that choices reach.
 use Rattle.gf_form.proofs.Common
 use Common.{false_from_ne_true, mul-le-mul_right, unsigned_abs-mul, AllByRecursion, InformationSet}
-use Common.{dvd-mul_right, if◌then◌else◌, sum_of_shares, append_assoc, chance_value, paid_at_node}
-use Common.{path_handing, sum_of_terms, unsigned_abs, HasChildren, IsSpellable, child_value, +ℤ_idl}
-use Common.{descent_all, flatten_all, is_personal, AreExactAt, IsFraction, append-nil, chances_at}
-use Common.{map-append, met_bounds, node_terms, product_of, value_over, zero_ratio, AreDigits, Bool}
-use Common.{IsExactAt, all_parts, by_chance, demanding, dvd_trans, eqb-false, is_sum_at, mul_above}
-use Common.{node_term, payoff_at, root_path, *ℤ_assoc, HasValue, IsWithin, choosing, comes_by, Game}
-use Common.{eqb-true, followed, steps_of, times_of, *ℤ-zero, *ℤ_comm, descent, flatten, node_at, []}
-use Common.{plus_of, reached, zero-*ℤ, FitsAt, IsGame, Option, SetKey, add-*ℤ, branch, eq-eqb, List}
-use Common.{length, ne_eqb, pay_at, set_at, sum_of, Ratio, Trees, arith, count, false, meets, subst}
-use Common.{value, Node, None, Path, Some, Stop, Term, Tree, ints, kept, more, none, refl, true, ap}
-use Common.{zero, ◌*ℤ◌, ◌++◌, ◌+ℤ◌, ◌==◌, inl, inr, map, pos, suc, sym, ◌*◌, ◌+◌, ◌/◌, ◌<◌, ◌^◌, ℕ}
-use Common.{◌∙◌, ◌∣◌, ◌∷◌, ◌≡◌, ◌≤◌, ◌⊎◌, ℤ}
-use Rattle.std.proofs.Math.IntN.{+ℤ_idr}
+use Common.{dvd-mul_right, if◌then◌else◌, option_map_or, sum_of_shares, append_assoc, chance_value}
+use Common.{paid_at_node, path_handing, sum_of_terms, unsigned_abs, HasChildren, IsSpellable, Ratio}
+use Common.{child_value, descent_all, flatten_all, is_personal, AreExactAt, IsFraction, append-nil}
+use Common.{chances_at, map-append, met_bounds, node_terms, product_of, value_over, zero_ratio, inl}
+use Common.{AreDigits, IsExactAt, all_parts, by_chance, demanding, dvd_trans, eqb-false, is_sum_at}
+use Common.{mul_above, node_term, payoff_at, root_path, *ℤ_assoc, HasValue, IsWithin, choosing, inr}
+use Common.{comes_by, eqb-true, followed, steps_of, times_of, *ℤ-zero, *ℤ_comm, descent, flatten, ℕ}
+use Common.{node_at, plus_of, reached, zero-*ℤ, +ℤ_idl, +ℤ_idr, FitsAt, IsGame, Option, SetKey, map}
+use Common.{add-*ℤ, branch, eq-eqb, length, ne_eqb, pay_at, set_at, sum_of, Trees, arith, count, []}
+use Common.{false, meets, subst, value, Bool, Game, List, Node, None, Path, Some, Stop, Term, Tree}
+use Common.{ints, kept, more, none, refl, true, zero, ◌*ℤ◌, ◌++◌, ◌+ℤ◌, ◌==◌, pos, suc, sym, ◌*◌, ℤ}
+use Common.{◌+◌, ◌/◌, ◌<◌, ◌^◌, ◌∙◌, ◌∣◌, ◌∷◌, ◌≡◌, ◌≤◌, ◌⊎◌, ap}
 use Rattle.std.proofs.Math.Nat.{eq-zero_of_zero-dvd, le-mul_of_pos_right}
-use Rattle.gf_form.specs.inner.rows.ReachedNodes.{has_room, demanding_path, drawn, met_if, is_sum}
-use Rattle.gf_form.proofs.lemmas.rows.MergedTerms.{quotient_of_product, quotient_above}
-use Rattle.gf_form.proofs.lemmas.rows.MergedTerms.{product_over, quotient_le, own_value, sum_over}
-use Rattle.gf_form.proofs.lemmas.rows.MergedTerms.{sum_size, none_first}
+use Rattle.gf_form.specs.inner.rows.ReachedNodes.{demanding_path, has_room, is_sum, met_if, drawn}
+use Rattle.gf_form.proofs.lemmas.rows.MergedTerms.{quotient_of_product, quotient_above, quotient_le}
+use Rattle.gf_form.proofs.lemmas.rows.MergedTerms.{product_over, none_first, own_value, sum_over}
+use Rattle.gf_form.proofs.lemmas.rows.MergedTerms.{sum_size}
 use Rattle.gf_form.proofs.lemmas.rows.ListedTerms.{bounds_append, shares_append}
-use Rattle.gf_form.proofs.lemmas.values.ValuesComputed.{zero_fraction, none_times, times_zero}
-use Rattle.gf_form.proofs.lemmas.values.ValuesComputed.{plus_zero, zero_is, zero_plus}
 use Rattle.gf_form.proofs.lemmas.values.ValuesComputed.{probability_fraction, payoff_fraction}
-use Rattle.gf_form.proofs.lemmas.values.ValuesComputed.{chance_size}
-use Rattle.std.specs.Option.{option_map_or}
+use Rattle.gf_form.proofs.lemmas.values.ValuesComputed.{zero_fraction, chance_size, none_times}
+use Rattle.gf_form.proofs.lemmas.values.ValuesComputed.{times_zero, plus_zero, zero_plus, zero_is}
 use Rattle.gf_form.proofs.lemmas.rows.Digits.{none_within, no_demands, none_pack, none_met}
 use Rattle.gf_form.proofs.lemmas.values.Walks.{paid_is}
-use Rattle.gf_form.proofs.lemmas.rows.Descents.{AreFreed, set_there, tree_kept}
+use Rattle.gf_form.proofs.lemmas.rows.Descents.{set_there, tree_kept, AreFreed}
 
 -- ---- integers
 

@@ -1,12 +1,11 @@
 -- All choices at sets with this many actions each: every one is in the list, once and at its place.
-use Rattle.gf_form.proofs.Common.{recursion_from_All, All-from_recursion, arith, div-lt_iff_lt-mul}
-use Rattle.gf_form.proofs.Common.{mul-le-mul_right, All-from_get_or, all_choices, get_or_default}
-use Rattle.gf_form.proofs.Common.{AllByRecursion, div-add-mod, AllZip-long, length-map, get_or-map}
-use Rattle.gf_form.proofs.Common.{Contains, List, product, length, get_or, AllZip, mod-lt, refl}
-use Rattle.gf_form.proofs.Common.{◌≡◌, ◌+◌, ◌-◌, ◌*◌, ◌/◌, ◌%◌, ◌<◌, ◌≤◌, ◌∷◌, map, ◌∙◌, ◌↔◌, sym}
-use Rattle.gf_form.proofs.Common.{[], ℕ, positions, length-numbers_from, get_or-numbers_from}
-use Rattle.std.proofs.lemmas.List.Elements.{All-contains}
-use Rattle.gf_form.proofs.lemmas.strategies.Lookups.{row_at, row_count}
+use Rattle.gf_form.proofs.Common.{get_or-numbers_from, length-numbers_from, All-from_recursion, map}
+use Rattle.gf_form.proofs.Common.{recursion_from_All, div-lt_iff_lt-mul, mul-le-mul_right, Contains}
+use Rattle.gf_form.proofs.Common.{All-from_get_or, AllByRecursion, get_or_default, All-contains, []}
+use Rattle.gf_form.proofs.Common.{AllZip-long, all_choices, div-add-mod, get_or-map, length-map, ℕ}
+use Rattle.gf_form.proofs.Common.{positions, product, AllZip, get_or, length, mod-lt, arith, List}
+use Rattle.gf_form.proofs.Common.{refl, sym, ◌%◌, ◌*◌, ◌+◌, ◌-◌, ◌/◌, ◌<◌, ◌↔◌, ◌∙◌, ◌∷◌, ◌≡◌, ◌≤◌}
+use Rattle.gf_form.proofs.lemmas.strategies.Lookups.{row_count, row_at}
 
 -- the choices that begin with an action
 abbrev begun : List (List ℕ) → ℕ → List (List ℕ)

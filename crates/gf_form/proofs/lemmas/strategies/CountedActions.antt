@@ -1,28 +1,25 @@
 -- Numbers of actions, multiplied one after another, and what is counted for each player.
 use Rattle.gf_form.proofs.Common
 use Common.{first_uses_distinct, get_or-numbers_from, length-numbers_from, unwrap_or-slice_get, Vec}
-use Common.{All-from_recursion, same_set_equality, option_and_then, AllByRecursion, InformationSet}
-use Common.{AreStrategies, action_counts, slice_get-map, AllZip-long, AreDistinct, ArePositive, map}
-use Common.{at_position, player_keys, player_sets, All-get_or, get_or-map, length-map, option_map}
-use Common.{players_of, strategies, AreCounts, Described, mul_above, mul_assoc, of_filter, same_set}
-use Common.{slice_get, unwrap_or, used_sets, take-suc, add-one, product, Counts, Global, IsGame, []}
-use Common.{Option, SetKey, filter, get_or, has_at, length, set_at, set_of, IsSet, arith, subst, ap}
-use Common.{Game, List, None, Some, refl, take, zero, ◌++◌, ◌==◌, suc, sym, ◌*◌, ◌+◌, ◌<◌, ◌∙◌, ◌∷◌}
-use Common.{◌≡◌, ◌≤◌, ℕ}
+use Common.{All-from_recursion, same_set_equality, mul-le-mul_left, option_and_then, AllByRecursion}
+use Common.{InformationSet, AreStrategies, action_counts, slice_get-map, AllZip-long, AreDistinct}
+use Common.{ArePositive, at_position, player_keys, player_sets, All-get_or, get_or-map, length-map}
+use Common.{option_map, players_of, strategies, AreCounts, Described, mul_above, mul_assoc, add-one}
+use Common.{of_filter, slice_get, unwrap_or, used_sets, entry_at, same_set, take-suc, product, Game}
+use Common.{Counts, Global, IsGame, Option, SetKey, filter, get_or, has_at, length, set_at, set_of}
+use Common.{IsSet, arith, subst, List, None, Some, refl, take, zero, ◌++◌, ◌==◌, map, suc, sym, ◌*◌}
+use Common.{◌+◌, ◌<◌, ◌∙◌, ◌∷◌, ◌≡◌, ◌≤◌, [], ap, ℕ}
 use Rattle.gf_form.proofs.lemmas.rows.Digits.{product_joined}
-use Rattle.std.proofs.Math.Nat.{mul-le-mul_left}
 pub use Rattle.std.proofs.lemmas.List.{take_all as take_past}
-use Rattle.gf_form.proofs.lemmas.strategies.Choices.{IsChoice, length-all_choices}
-use Rattle.gf_tree.proofs.Offered.{entry_at}
-use Rattle.gf_form.proofs.lemmas.strategies.Lookups.{all_mapped, zip_at, zip_by_places, zip_in_turn}
+use Rattle.gf_form.proofs.lemmas.strategies.Choices.{length-all_choices, IsChoice}
+use Rattle.gf_form.proofs.lemmas.strategies.Lookups.{zip_by_places, zip_in_turn, all_mapped, zip_at}
 
 -- ---- products
 
 pub product_more : (counts : List ℕ) (i : ℕ) → i < length counts
     → product (take (suc i) counts) ≡ product (take i counts) * get_or counts i 0
 product_more counts i less =
-    let taken = take-suc counts i 0 less in
-    let whole = product_joined (take i counts) (get_or counts i 0 ∷ []) in grind arith
+    grind (arith, take-suc counts i 0 less, product_joined (take i counts) (get_or counts i 0 ∷ []))
 
 pub product_positive : (counts : List ℕ) → ArePositive counts → 0 < product counts
 product_positive [] h = omega arith

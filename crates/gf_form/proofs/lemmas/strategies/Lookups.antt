@@ -1,15 +1,14 @@
 -- What is found in a list whose elements all have a property, and the information sets of a game
 -- by their keys.
 use Rattle.gf_form.proofs.Common
-use Common.{unwrap_or-slice_get, get_or-numbers_from, length-numbers_from, first_uses_distinct, ◌<◌}
-use Common.{recursion_from_All, get_or_append_left, same_set_equality, sets_by_first_use, slice_get}
-use Common.{Contains-get_or, AllByRecursion, IsFirstWithout, InformationSet, length-append, IfSome}
-use Common.{numbers_from, at_position, strategy_at, all_of_each, AllZip-long, player_keys, flat_map}
-use Common.{mapped_from, AreDistinct, option_map, all_images, positions, Described, of_filter, refl}
-use Common.{used_sets, eqb-true, same_set, length, get_or, AllZip, SetKey, IsGame, set_at, arith, ℕ}
-use Common.{subst, IsSet, Bool, true, List, ◌++◌, Some, zero, find, Game, map, ◌≡◌, suc, ◌∷◌, ◌∙◌}
-use Common.{◌≤◌, ◌-◌, ◌+◌, ◌↔◌, has, Has, ◌*◌, sym, [], ap}
-use Rattle.std.proofs.lemmas.List.{get_or-append-add}
+use Common.{first_uses_distinct, get_or-numbers_from, length-numbers_from, unwrap_or-slice_get, Has}
+use Common.{get_or_append_left, recursion_from_All, get_or-append-add, same_set_equality, Described}
+use Common.{sets_by_first_use, Contains-get_or, AllByRecursion, InformationSet, IsFirstWithout, has}
+use Common.{length-append, numbers_from, AllZip-long, AreDistinct, all_of_each, at_position, AllZip}
+use Common.{mapped_from, player_keys, strategy_at, all_images, option_map, of_filter, positions, []}
+use Common.{slice_get, used_sets, eqb-true, flat_map, same_set, IfSome, IsGame, SetKey, get_or, map}
+use Common.{length, set_at, IsSet, arith, subst, Bool, Game, List, Some, find, refl, true, zero, ap}
+use Common.{◌++◌, suc, sym, ◌*◌, ◌+◌, ◌-◌, ◌<◌, ◌↔◌, ◌∙◌, ◌∷◌, ◌≡◌, ◌≤◌, ℕ}
 use Rattle.gf_tree.specs.FirstUse.{sets_of}
 
 pub all_mapped : {A B : Type 0} (P : B → Type 0) (f : A → B) (xs : List A) → ((x : A) → P (f x))
@@ -64,11 +63,8 @@ pub row_at : {A B : Type 0} (f : A → List B) (n : ℕ) → ((x : A) → length
     (i j : ℕ) (d : A) (e : B) → i < length xs → j < n
     → get_or (flat_map f xs) (i * n + j) e ≡ get_or (f (get_or xs i d)) j e
 row_at f n each (x ∷ xs) (suc i) j d e less within =
-    let at : suc i * n + j ≡ n + (i * n + j) = omega arith in
-    let others = row_at f n each xs i j d e (omega (arith, less)) within in
-    grind (arith, at, each x, others, get_or-append-add)
-row_at f n each (x ∷ xs) zero j d e less within =
-    let at : 0 * n + j ≡ j = omega arith in grind (arith, at, each x, get_or_append_left)
+    grind (arith, row_at f n each xs i j d e (omega (arith, less)) within, get_or-append-add)
+row_at f n each (x ∷ xs) zero j d e less within = grind (arith, get_or_append_left)
 row_at f n each [] i j d e less within = absurd (omega arith)
 
 -- ---- lists place by place
@@ -116,14 +112,6 @@ pub all_right : {A B : Type 0} (R : A → B → Type 0) (P : B → Type 0)
 all_right R P each (x ∷ xs) (y ∷ ys) h = (each x y h.0, all_right R P each xs ys h.1)
 all_right R P each [] [] h = tt
 all_right R P each xs ys h = grind arith
-
-pub zip_weaker : {A B : Type 0} (P : A → Type 0) (R S : A → B → Type 0)
-    → ((x : A) (y : B) → P x → R x y → S x y) → (xs : List A) (ys : List B) → AllByRecursion P xs
-    → AllZip R xs ys → AllZip S xs ys
-zip_weaker P R S weaker (x ∷ xs) (y ∷ ys) p h =
-    (weaker x y p.0 h.0, zip_weaker P R S weaker xs ys p.1 h.1)
-zip_weaker P R S weaker [] [] p h = tt
-zip_weaker P R S weaker xs ys p h = grind arith
 
 zip_both : {A B : Type 0} (R : A → B → Type 0) (xs more : List A) (ys bs : List B) → AllZip R xs ys
     → AllZip R more bs → AllZip R (xs ++ more) (ys ++ bs)

@@ -1,19 +1,16 @@
 -- The profile with a number, and the profiles of some strategies of each player with their numbers
 -- among all profiles.
 use Rattle.gf_form.proofs.Common
-use Common.{length-numbers_from, get_or-numbers_from, unwrap_or-slice_get, AreProfileNumbers, arith}
-use Common.{numbered_profiles, div-lt_iff_lt-mul, drop_of_length-le, Contains-get_or, AreStrategies}
-use Common.{length-profiles, AllByRecursion, action_counts, full_profiles, strategies_at, AreCounts}
-use Common.{take_more_set, numbers_from, append_assoc, mod-add-div, all_of_each, all_choices, List}
-use Common.{strategy_at, all_weaker, players_of, get_or-map, length-map, strategies, append-nil, ap}
-use Common.{length-set, ArePicked, positions, drop-cons, IsPicked, flat_map, mul_comm, profiles, []}
-use Common.{AreBelow, product, add-one, get_or, AllZip, Counts, length, mod-lt, zero, drop, Game, ℕ}
-use Common.{refl, ◌++◌, take, ◌≡◌, suc, ◌+◌, ◌*◌, ◌/◌, ◌%◌, ◌<◌, ◌≤◌, ◌∷◌, map, ◌∙◌, sym, zip, set}
-use Common.{⊤}
-use Rattle.gf_form.proofs.lemmas.strategies.Lookups.{in_turn, row_at, zip_by_places, zip_flat}
-use Rattle.gf_form.proofs.lemmas.strategies.Lookups.{all_in_turn}
+use Common.{get_or-numbers_from, length-numbers_from, unwrap_or-slice_get, AreProfileNumbers, arith}
+use Common.{div-lt_iff_lt-mul, numbered_profiles, length-profiles, AllByRecursion, action_counts, ℕ}
+use Common.{full_profiles, numbers_from, all_choices, mod-add-div, strategy_at, all_weaker, add-one}
+use Common.{get_or-map, length-map, strategies, AreCounts, ArePicked, positions, AreBelow, IsPicked}
+use Common.{flat_map, mul_comm, profiles, product, AllZip, Counts, get_or, length, Game, List, drop}
+use Common.{refl, zero, map, suc, sym, zip, ◌%◌, ◌*◌, ◌+◌, ◌/◌, ◌<◌, ◌∙◌, ◌∷◌, ◌≡◌, [], ap}
+use Rattle.gf_form.proofs.lemmas.strategies.Lookups.{zip_by_places, all_in_turn, zip_flat, in_turn}
+use Rattle.gf_form.proofs.lemmas.strategies.Lookups.{row_at}
 use Rattle.gf_form.proofs.lemmas.strategies.Choices.{length-all_choices}
-use Rattle.gf_form.proofs.lemmas.strategies.StrategiesByNumber.{all_at, positive_parts}
+use Rattle.gf_form.proofs.lemmas.strategies.StrategiesByNumber.{positive_parts, all_at}
 
 -- ---- the profile with a number
 
@@ -47,10 +44,7 @@ sum_below count rest size number less below = grind arith
 one_picked : (count : ℕ) (counts own : List ℕ) (picked : List (List ℕ)) (others : List ℕ)
     (rest k : ℕ) → IsPicked counts picked others rest → get_or own k 0 < count
     → IsPicked (count ∷ counts) (own ∷ picked) ((1 + k) ∷ others) (get_or own k 0 + count * rest)
-one_picked count counts own picked others rest k one less = record {
-  within = sum_below count rest (product counts) (get_or own k 0) one.within less;
-  is = grind (arith, profile_at, one.is);
-}
+one_picked count counts own picked others rest k one less = grind (arith, sum_below, profile_at)
 
 -- with each of his strategies
 more_picked : (count : ℕ) (counts own : List ℕ) (picked : List (List ℕ)) (others : List ℕ)

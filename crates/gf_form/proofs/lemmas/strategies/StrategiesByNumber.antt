@@ -2,22 +2,20 @@
 -- labels of strategies differ, and those of all sets are joined from those of some and of the
 -- others.
 use Rattle.gf_form.proofs.Common
-use Common.{mul-div_cancel_left, All-from_recursion, decimal_injective, slice_get-get_or, drop-cons}
-use Common.{AllByRecursion, join_with_byte, strategy_label, if◌then◌else◌, reduced_label, map_twice}
-use Common.{slice_get-map, append_assoc, all_choices, choice_text, All-get_or, all_weaker, all_both}
-use Common.{length-map, map-append, mul_assoc, slice_get, take-suc, IsPlain, add-one, decimal, Bool}
-use Common.{product, Option, get_or, length, mod-lt, arith, false, shown, subst, List, None, Some}
-use Common.{drop, refl, take, true, zero, ◌++◌, ◌==◌, map, suc, sym, ◌%◌, ◌*◌, ◌+◌, ◌/◌, ◌<◌, ◌^◌}
-use Common.{◌∙◌, ◌∷◌, ◌≡◌, ◌≤◌, [], ap, ℕ}
-use Rattle.std.proofs.lemmas.Bool.Decides.{nat_tests}
-use Rattle.std.proofs.lemmas.Fmt.{decimal_by_steps}
+use Common.{mul-div_cancel_left, All-from_recursion, decimal_injective, decimal_by_steps, drop-cons}
+use Common.{slice_get-get_or, AllByRecursion, join_with_byte, strategy_label, if◌then◌else◌, Option}
+use Common.{reduced_label, slice_get-map, append_assoc, all_choices, choice_text, All-get_or, arith}
+use Common.{all_weaker, length-map, map-append, map_twice, mul_assoc, nat_tests, slice_get, IsPlain}
+use Common.{all_both, take-suc, add-one, decimal, product, get_or, length, mod-lt, false, shown, []}
+use Common.{subst, Bool, List, None, Some, drop, refl, take, true, zero, ◌++◌, ◌==◌, map, suc, sym}
+use Common.{◌%◌, ◌*◌, ◌+◌, ◌/◌, ◌<◌, ◌^◌, ◌∙◌, ◌∷◌, ◌≡◌, ◌≤◌, ap, ℕ}
 use Rattle.gf_token.specs.LabelSpelling.{is_spelling_after, IsLabel}
 use Rattle.gf_form.proofs.lemmas.strategies.CountedActions.{take_past}
-use Rattle.gf_form.proofs.lemmas.strategies.Choices.{IsChoice, choice_there, at_its_place, place}
-use Rattle.gf_form.proofs.lemmas.strategies.Choices.{length-all_choices, long, every_choice}
-use Rattle.gf_form.proofs.lemmas.strategies.Choices.{choices_distinct}
+use Rattle.gf_form.proofs.lemmas.strategies.Choices.{length-all_choices, choices_distinct, IsChoice}
+use Rattle.gf_form.proofs.lemmas.strategies.Choices.{at_its_place, choice_there, every_choice, long}
+use Rattle.gf_form.proofs.lemmas.strategies.Choices.{place}
 use Rattle.gf_form.proofs.lemmas.rows.Digits.{product_joined}
-pub use Rattle.gf_form.proofs.lemmas.strategies.Choices.{choices_next, choices_row, positive_parts}
+pub use Rattle.gf_form.proofs.lemmas.strategies.Choices.{positive_parts, choices_next, choices_row}
 
 pub all_at : {A : Type 0} (P : A → Type 0) (xs : List A) (i : ℕ) (d : A) → AllByRecursion P xs
     → i < length xs → P (get_or xs i d)
@@ -131,9 +129,7 @@ digits_of n h =
     (λ k ds _ p. all_both IsDigit ds ((48 + k % 10) ∷ []) p (omega (arith, mod-lt), tt)) n h
 
 pub plain_number : (n : ℕ) → n < 2 ^ 32 → AllByRecursion IsPlain (decimal n)
-plain_number n h =
-    all_weaker IsDigit IsPlain (λ b d. grind (arith, nat_tests)) (decimal n)
-    (digits_of n (omega (arith, h)))
+plain_number n h = grind (arith, all_weaker, nat_tests, digits_of)
 
 plain_after : (before : ℕ) (bytes : List ℕ) → (before == 92) ≡ false
     → AllByRecursion IsPlain bytes → is_spelling_after before bytes ≡ true

@@ -8,22 +8,19 @@ use Common.{IsChanceValue, if◌then◌else◌, mul_pos_right, IsChildValue, Mul
 use Common.{IsMoveValue, IsSpellable, MatchOption, flatten_all, play_payoff, plus_across, all_parts}
 use Common.{probability, times_above, times_right, All-get_or, ArePayoffs, IsFraction, cases_Bool}
 use Common.{chances_at, equal_refl, length-map, option_map, players_of, plays_from, plus_above, inl}
-use Common.{plus_right, times_plus, times_zero, zero_ratio, from_node, is_chosen, one_ratio, Action}
-use Common.{payoff_at, plus_both, plus_left, slice_get, unwrap_or, *ℤ_assoc, +ℤ_assoc, at_place, []}
-use Common.{eqb-true, *ℤ_comm, IsAbove, IsEqual, IsValue, flatten, follows, AddsTo, IfSome, IsGame}
-use Common.{Option, SetKey, add-*ℤ, branch, filter, get_or, length, payoff, set_at, ◌then◌, Ratio}
-use Common.{Trees, arith, count, false, plays, subst, times, total, Game, List, Node, None, Play}
-use Common.{Some, Tree, back, more, none, plus, refl, true, zero, ◌++◌, ◌==◌, inr, map, suc, sym}
-use Common.{◌+◌, ◌<◌, ◌∙◌, ◌∷◌, ◌≡◌, ap}
-use Rattle.gf_fraction.proofs.Offered.{mul_above}
-use Rattle.std.proofs.Math.IntN.{+ℤ_idr}
-use Rattle.gf_tree.specs.Description.{AddUpTo, AreActions}
-use Rattle.gf_form.proofs.lemmas.strategies.Lookups.{each_set, set_is, next_position, zip_in_turn}
-use Rattle.gf_form.proofs.lemmas.strategies.Lookups.{all_in_turn}
+use Common.{plus_right, times_plus, times_zero, zero_ratio, from_node, is_chosen, mul_above, +ℤ_idr}
+use Common.{one_ratio, payoff_at, plus_both, plus_left, slice_get, unwrap_or, *ℤ_assoc, +ℤ_assoc}
+use Common.{at_place, eqb-true, *ℤ_comm, AddUpTo, IsAbove, IsEqual, IsValue, flatten, follows, Game}
+use Common.{Action, AddsTo, IfSome, IsGame, Option, SetKey, add-*ℤ, branch, filter, get_or, length}
+use Common.{payoff, set_at, ◌then◌, Ratio, Trees, arith, count, false, plays, subst, times, total}
+use Common.{List, Node, None, Play, Some, Tree, back, more, none, plus, refl, true, zero, ◌++◌, inr}
+use Common.{◌==◌, map, suc, sym, ◌+◌, ◌<◌, ◌∙◌, ◌∷◌, ◌≡◌, [], ap}
+use Rattle.gf_tree.specs.Description.{AreActions}
+use Rattle.gf_form.proofs.lemmas.strategies.Lookups.{next_position, all_in_turn, zip_in_turn}
+use Rattle.gf_form.proofs.lemmas.strategies.Lookups.{each_set, set_is}
 use Rattle.gf_form.proofs.lemmas.rows.Descents.{set_there}
-use Rattle.gf_form.proofs.lemmas.values.ValuesComputed.{probability_above, payoff_above}
-use Rattle.gf_form.proofs.lemmas.values.ValuesComputed.{each_action, fraction_at, value_is}
-use Rattle.gf_form.proofs.lemmas.values.ValuesComputed.{none_computed}
+use Rattle.gf_form.proofs.lemmas.values.ValuesComputed.{probability_above, none_computed, value_is}
+use Rattle.gf_form.proofs.lemmas.values.ValuesComputed.{payoff_above, each_action, fraction_at}
 
 -- ---- sums and products whose parts are the same
 
@@ -173,26 +170,20 @@ module _ (g : Game) (choices : SetKey → ℕ) (player : ℕ) where
         ≡ (if b then shares (times chance (q n k)) (plus paid (own n)) ps else zero_ratio)
     after n k true e [] = refl
     after n k false e [] = refl
-    after n k true e (p ∷ ps) =
-        grind (arith, e, times_grouped, plus_grouped, after n k true e ps)
+    after n k true e (p ∷ ps) = grind (arith, after n k true e ps, times_grouped, plus_grouped)
     after n k false e (p ∷ ps) = grind (arith, e, after n k false e ps, none_plus)
 
     joined : (xs ys : List Play)
         → shares chance paid (xs ++ ys) ≡ plus (shares chance paid xs) (shares chance paid ys)
     joined [] ys = sym (none_plus (shares chance paid ys))
-    joined (p ∷ xs) ys =
-        let w : Ratio = if follows choices p then share chance paid p else zero_ratio in
-        ap (plus w) (joined xs ys)
-        ∙ sym (plus_grouped w (shares chance paid xs) (shares chance paid ys))
+    joined (p ∷ xs) ys = grind (arith, joined xs ys, plus_grouped)
 
     pub first : (n : Node) (k : ℕ) (b : Bool)
         → is_chosen choices (record { node = n; taken = k }) ≡ b → (t : Tree Node) (ts : Trees Node)
         → shares chance paid (plays_from n k (more t ts))
         ≡ plus (if b then shares (times chance (q n k)) (plus paid (own n)) (plays t)
         else zero_ratio) (shares chance paid (plays_from n (k + 1) ts))
-    first n k b e t ts =
-        joined (map (from_node n k) (plays t)) (plays_from n (k + 1) ts)
-        ∙ ap (λ r. plus r (shares chance paid (plays_from n (k + 1) ts))) (after n k b e (plays t))
+    first n k b e t ts = grind (arith, joined, after)
 
     none_later : (n : Node) (key : SetKey) (k : ℕ) (ts : Trees Node) → n.set ≡ Some key
         → (key.player == 0) ≡ false → choices key < k

@@ -7,16 +7,15 @@ use Common.{PartAtChance, chance_value, HasChildren, IsSpellable, MatchOption, c
 use Common.{flatten_all, mapped_from, play_payoff, probability, all_images, all_weaker, chances_at}
 use Common.{map-append, plays_from, zero_ratio, MatchBool, all_parts, from_node, is_chosen, IsValue}
 use Common.{map_trees, map_twice, of_filter, one_ratio, payoff_at, Contains, all_both, contains, []}
-use Common.{list_all, map_tree, nodes_of, flatten, follows, AddsTo, IsGame, Option, SetKey, branch}
-use Common.{filter, payoff, Ratio, Trees, arith, count, plays, times, total, value, Game, List, Has}
-use Common.{Node, None, Play, Some, Step, Tree, more, none, plus, refl, true, zero, ◌&&◌, ◌++◌, has}
-use Common.{◌==◌, inl, inr, map, suc, sym, ◌+◌, ◌<◌, ◌↔◌, ◌∙◌, ◌∷◌, ◌≡◌, ◌≤◌, ◌⊎◌, ap, ℕ}
-use Rattle.gf_tree.specs.PrefixOrder.{Listed}
+use Common.{list_all, map_tree, nodes_of, flatten, follows, AddsTo, IsGame, Listed, Option, SetKey}
+use Common.{branch, filter, payoff, Ratio, Trees, arith, count, plays, times, total, value, Game, ℕ}
+use Common.{List, Node, None, Play, Some, Step, Tree, more, none, plus, refl, true, zero, ◌++◌, Has}
+use Common.{◌==◌, has, inl, inr, map, suc, sym, ◌+◌, ◌<◌, ◌↔◌, ◌∙◌, ◌∷◌, ◌≡◌, ◌≤◌, ◌⊎◌, ap}
 use Rattle.gf_form.proofs.lemmas.strategies.Chosen.{chance_is_paid_nothing}
-use Rattle.gf_form.proofs.lemmas.values.BottomUp.{times_once, shares_are, once_times, tree_pays}
+use Rattle.gf_form.proofs.lemmas.values.BottomUp.{once_times, shares_are, times_once, tree_pays}
 use Rattle.gf_form.proofs.lemmas.values.BottomUp.{has_set, over}
-use Rattle.gf_form.proofs.lemmas.values.ValuesComputed.{probability_fraction, zeros_weighed}
-use Rattle.gf_form.proofs.lemmas.values.ValuesComputed.{zero_fraction, plus_zero, value_is}
+use Rattle.gf_form.proofs.lemmas.values.ValuesComputed.{probability_fraction, zero_fraction}
+use Rattle.gf_form.proofs.lemmas.values.ValuesComputed.{zeros_weighed, plus_zero, value_is}
 
 -- ---- plays by other nodes
 
@@ -102,13 +101,7 @@ module _ (g h : Game) (c d : SetKey → ℕ) (player : ℕ) (f : Node → Node) 
       → OnPlay IsAlike (record { steps = steps; leaf = leaf })
       → IsSamePlay (record { steps = steps; leaf = leaf })
   same_play [] leaf on = (refl, refl, ap (λ r. plus r zero_ratio) on.1.pays)
-  same_play (s ∷ steps) leaf on =
-      let here = on.0.0 in
-      let later = same_play steps leaf (on.0.1, on.1) in (
-        λ i. here.chosen s.taken i && later.0 i,
-        λ i. times (here.chance s.taken i) (later.1 i),
-        λ i. plus (here.pays i) (later.2 i),
-      )
+  same_play (s ∷ steps) leaf on = grind (arith, same_play steps leaf (on.0.1, on.1))
 
   same_total : (ps : List Play) → AllByRecursion (OnPlay IsAlike) ps
       → total (map (λ p. times (play_probability h p) (play_payoff h player p))

@@ -2,26 +2,20 @@
 -- probability of a chance move is negative. The computed bottom-up value is the one of the relation;
 -- and rows that are added up, number by number.
 use Rattle.gf_form.proofs.Common
-use Common.{fits_signed_from_abs, get_or-set_other, option_and_then, product_of-some, IsChanceValue}
-use Common.{sum_is_computed, AllByRecursion, InformationSet, get_or_default, whole_fraction, *ℤ-one}
-use Common.{if◌then◌else◌, IsChildValue, MultipliesTo, chance_value, one_fraction, unsigned_abs, []}
+use Common.{fits_signed_from_abs, product_is_computed, IsSpellableAction, get_or-set_other, *ℤ-zero}
+use Common.{get_or-set_same, option_and_then, product_of-none, product_of-some, sum_is_computed, []}
+use Common.{AllByRecursion, InformationSet, get_or_default, whole_fraction, IsChanceValue, at_place}
+use Common.{if◌then◌else◌, IsChildValue, MultipliesTo, chance_value, one_fraction, unsigned_abs, ap}
 use Common.{IsSpellable, MatchOption, at_position, child_value, get_or_past, probability, MatchBool}
-use Common.{sum_of-some, IsFraction, chances_at, outcome_at, product_of, scaled_num, value_over, ap}
-use Common.{zero_ratio, action_at, payoff_at, to_z-of_z, unwrap_or, at_place, cases_lt, dvd_refl, ℕ}
-use Common.{eqb-true, same_set, times_of, *ℤ-zero, *ℤ_comm, IsAbove, IsValue, Outcome, one-dvd, pos}
-use Common.{plus_of, Action, AddsTo, IfSome, IsGame, Option, SetKey, branch, get_or, length, set_at}
-use Common.{sum_of, IsLcm, IsSet, Ratio, Trees, arith, false, subst, value, Bool, Game, List, Node}
-use Common.{None, Some, Step, Tree, ints, more, none, refl, true, zero, ◌*ℤ◌, ◌==◌, set, suc, sym}
-use Common.{◌*◌, ◌+◌, ◌/◌, ◌<◌, ◌↔◌, ◌∙◌, ◌∷◌, ◌≡◌, ◌≤◌, ◌⊎◌, ℤ}
-use Rattle.gf_tree.specs.Spellable.{IsSpellableAction, IsSpellableSet, IsSpellableOutcome}
-use Rattle.gf_form.proofs.lemmas.strategies.Lookups.{each_described, each_at, each_set}
-use Rattle.std.specs.Prelude.{◌≤ℤ◌}
-use Rattle.gf_tree.specs.Description.{AddUpTo, AreActions}
-use Rattle.gf_fraction.specs.Offered.{sum_of}
-use Rattle.gf_fraction.proofs.Offered.{product_is_computed, product_of-none, sum_of-none}
-use Rattle.std.proofs.Math.Nat.{div_self}
+use Common.{sum_of-none, sum_of-some, IsFraction, chances_at, outcome_at, product_of, scaled_num, ℕ}
+use Common.{value_over, zero_ratio, action_at, payoff_at, to_z-of_z, unwrap_or, cases_lt, div_self}
+use Common.{dvd_refl, eqb-true, times_of, *ℤ_comm, AddUpTo, IsAbove, IsValue, Outcome, one-dvd, pos}
+use Common.{plus_of, *ℤ-one, Action, AddsTo, IfSome, IsGame, Option, SetKey, branch, get_or, length}
+use Common.{set_at, sum_of, IsLcm, IsSet, Ratio, Trees, arith, false, subst, value, Bool, Game, set}
+use Common.{List, Node, None, Some, Step, Tree, ints, more, none, refl, true, zero, ◌*ℤ◌, ◌==◌, suc}
+use Common.{◌≤ℤ◌, sym, ◌*◌, ◌+◌, ◌/◌, ◌<◌, ◌↔◌, ◌∙◌, ◌∷◌, ◌≡◌, ◌≤◌, ◌⊎◌, ℤ}
+use Rattle.gf_form.proofs.lemmas.strategies.Lookups.{each_described, each_set, each_at}
 use Rattle.std.proofs.Math.ListN.{length-set}
-use Rattle.std.proofs.lemmas.List.{get_or-set_same}
 
 -- ---- denominators and signs
 
@@ -35,15 +29,11 @@ each_action g P s sets = grind (arith, each_at P)
 module _ (g : Game) (spellable : IsSpellable g) where
   actions_of : (key : SetKey)
       → IfSome (set_at g key) (λ set. AllByRecursion IsSpellableAction set.actions)
-  actions_of key =
-      each_described IsSpellableSet (λ set. AllByRecursion IsSpellableAction set.actions)
-      (λ s. s.description) (λ s. same_set s.key key) g.sets (λ s h _. h.actions) spellable.sets
+  actions_of key = grind (arith, each_described)
 
   pub payoffs_of : (number : ℕ)
       → IfSome (outcome_at g number) (λ outcome. AllByRecursion IsFraction outcome.payoffs)
-  payoffs_of number =
-      each_described IsSpellableOutcome (λ outcome. AllByRecursion IsFraction outcome.payoffs)
-      (λ o. o.description) (λ o. o.key == number) g.outcomes (λ o h _. h.payoffs) spellable.outcomes
+  payoffs_of number = grind (arith, each_described)
 
   pub probability_fraction : (s : Step) → IsFraction (probability g s)
   probability_fraction s =
@@ -79,8 +69,7 @@ lottery_signs (a ∷ actions) sum total adds =
 set_signs : (players : ℕ) (key : SetKey) (o : Option InformationSet) → key.player ≡ 0
     → IfSome o (IsSet players key) → IfSome o (λ set. AllByRecursion HasSign set.actions)
 set_signs players key None chance is = tt
-set_signs players key (Some set) chance is =
-    lottery_signs set.actions _ _ (subst (λ p. AreActions p set.actions) chance is.actions)
+set_signs players key (Some set) chance is = grind (arith, lottery_signs)
 
 pub chance_size : (g : Game) → IsGame g → (n : Node) (key : SetKey) (k : ℕ) → n.set ≡ Some key
     → key.player ≡ 0 → (chances_at g n k).num ≡ pos (unsigned_abs (chances_at g n k).num)

@@ -1,40 +1,32 @@
 -- The payoffs of outcomes, by their positions; the nodes in a list, in which children stand one after
 -- another; the value of a tree by its branches, and what is left of it during a walk.
 use Rattle.gf_form.proofs.Common
-use Common.{first_uses_distinct, unwrap_or-slice_get, false_from_ne_true, get_or_append_left, IsRow}
-use Common.{same_set_equality, sets_by_first_use, slice_get-get_or, option_and_then, get_or_default}
-use Common.{outcome_numbers, slice_get_past, length-append, slice_get-map, chance_value, chances_at}
-use Common.{paid_at_node, AreDistinct, IsSpellable, MatchOption, at_position, child_trees, at_index}
-use Common.{child_value, flatten_all, player_keys, strategy_at, choices_by, get_or-map, length-map}
-use Common.{option_map, outcome_at, zero_ratio, Described, choice_at, drop-cons, one_ratio, ArePaid}
-use Common.{payoff_at, root_node, slice_get, unwrap_or, at_place, cases_lt, eqb-true, Outcome, Game}
-use Common.{flatten, game_of, list_of, plus_of, tree_of, Action, Global, IsGame, Option, SetKey, []}
-use Common.{branch, eq-eqb, get_or, has_at, length, nat_eq, row_at, set_at, Ratio, Trees, arith, ap}
-use Common.{subst, value, List, Node, None, Some, Tree, drop, more, none, paid, refl, zero, ◌++◌, ℕ}
-use Common.{◌==◌, Vec, inl, inr, map, suc, sym, ◌+◌, ◌-◌, ◌<◌, ◌∙◌, ◌∷◌, ◌≡◌, ◌≤◌}
-use Rattle.std.specs.Prelude.{position}
+use Common.{first_uses_distinct, unwrap_or-slice_get, false_from_ne_true, get_or-append_seam, AreOf}
+use Common.{get_or_append_left, same_set_equality, sets_by_first_use, slice_get-get_or, AreDistinct}
+use Common.{option_and_then, outcome_numbers, drop-append-le, get_or_default, reverse-append, IsRow}
+use Common.{slice_get_past, length-append, not_described, slice_get-map, chance_value, paid_at_node}
+use Common.{IsSpellable, MatchOption, at_position, child_trees, child_value, flatten_all, Described}
+use Common.{get_or_push, player_keys, strategy_at, AreNodesOf, chances_at, choices_by, get_or-map}
+use Common.{length-map, option_map, outcome_at, zero_ratio, IsOutcome, StandFrom, choice_at, Action}
+use Common.{drop-cons, one_ratio, payoff_at, root_node, slice_get, unwrap_or, at_index, at_place, ℕ}
+use Common.{cases_lt, drop-nil, eqb-true, position, trees_in, trees_of, ArePaid, Outcome, flatten}
+use Common.{game_of, list_of, plus_of, reverse, tree_at, tree_of, Global, IsGame, Option, SetKey}
+use Common.{branch, eq-eqb, get_or, has_at, length, nat_eq, row_at, set_at, sum_by, Ratio, Trees}
+use Common.{arith, value, Game, List, Node, None, Some, Tree, drop, more, none, paid, refl, zero}
+use Common.{◌++◌, ◌==◌, Vec, inl, inr, map, suc, sym, ◌+◌, ◌<◌, ◌∙◌, ◌∷◌, ◌≡◌, ◌≤◌, [], ap}
 use Rattle.std.proofs.lemmas.List.Quantifiers.{position-Some}
-use Rattle.gf_tree.proofs.Offered.{not_described}
-use Rattle.std.proofs.lemmas.List.{get_or_push, drop-append-le, reverse-append}
-use Rattle.gf_tree.specs.Description.{IsOutcome}
-use Rattle.gf_form.proofs.lemmas.values.ValuesComputed.{payoffs_of, none_stays}
+use Rattle.gf_form.proofs.lemmas.values.ValuesComputed.{none_stays, payoffs_of}
 use Rattle.gf_form.proofs.lemmas.strategies.Lookups.{each_described}
-use Rattle.std.specs.List.{sum_by}
 use Rattle.std.proofs.lemmas.List.Sums.{sum_by-append, sum_by-cons, sum_by_push}
 use Rattle.std.proofs.lemmas.Option.{get_or_from_slice_get, slice_get_within}
-use Rattle.std.proofs.Math.Seq.{get_or-append_seam, drop-nil}
 use Rattle.gf_tree.specs.declared.game.branch.Branch.{Branch}
 use Rattle.gf_form.proofs.lemmas.strategies.StrategiesByNumber.{all_at}
 use Rattle.gf_form.specs.declared.values.nodes.Nodes.{Nodes}
-use Rattle.gf_form.specs.inner.values.NodeLists.{AreNodesOf, AreOf, StandFrom, tree_at, trees_in}
-use Rattle.gf_form.specs.inner.values.Values.{trees_of}
-use Rattle.std.proofs.Common.{reverse}
 use Rattle.gf_form.specs.declared.values.walk.Open.{Open}
 use Rattle.gf_form.specs.declared.values.walk.Open.TheVariants.{Chance, Choice}
 use Rattle.gf_form.specs.declared.values.walk.Walk.{Walk}
-use Rattle.gf_form.specs.inner.values.ValueLeft.{choices_of, node_there, open_value, tree_there}
-use Rattle.gf_form.specs.inner.values.ValueLeft.{tree_value, trees_left, whole_value, with_own}
-use Rattle.gf_form.specs.inner.values.ValueLeft.{Lacks}
+use Rattle.gf_form.specs.inner.values.ValueLeft.{whole_value, choices_of, node_there, open_value}
+use Rattle.gf_form.specs.inner.values.ValueLeft.{tree_there, tree_value, with_own, Lacks}
 
 -- ---- the payoffs of an outcome, by its position
 
@@ -160,9 +152,7 @@ module _ (w : Walk) where
   -- a value that is not defined stays so
   open_none : (k : ℕ) (o : Open) → open_value w k o None ≡ None
   open_none k (Choice node) = refl
-  open_none k (Chance node given sum) =
-      ap (with_own w k node) (none_stays w.game.now (choices_of w) (suc k) (trees_left w node given)
-      (chances_at w.game.now (node_there w node)) (given + 1))
+  open_none k (Chance node given sum) = grind (arith, none_stays)
 
   whole_none : (k : ℕ) (os : List Open) → whole_value w k os None ≡ None
   whole_none k [] = refl
@@ -260,8 +250,7 @@ still_there xs ys k x h = grind arith
 behind : {A : Type 0} (xs ys : List A) (k : ℕ)
     → slice_get (xs ++ ys) (length xs + k) ≡ slice_get ys k
 behind [] ys k = ap (slice_get ys) (omega arith)
-behind (x ∷ xs) ys k =
-    let next : length (x ∷ xs) + k ≡ suc (length xs + k) = omega arith in rw next (behind xs ys k)
+behind (x ∷ xs) ys k = grind (arith, behind xs ys k)
 
 -- the children of so many of these trees, the first ones, stand at their places
 abbrev StandFor : Game → List (Tree Node) → List ℕ → Type 0
@@ -332,9 +321,7 @@ module _ (g : Game) (branches next : List Branch) (firsts : List ℕ) (node : Br
   pub sizes_fall : (on : List ℕ) → length on ≡ length firsts + 1
       → sizes (drop (length on) (map tree_of next))
       < sizes (drop (length firsts) (map tree_of branches))
-  sizes_fall on long =
-      rw (long, trees, there)
-      (less_left (map tree_of branches) (length firsts) g.tree (omega (arith, less, counted)))
+  sizes_fall on long = grind (arith, there, less_left, counted)
 
 -- ---- a child
 

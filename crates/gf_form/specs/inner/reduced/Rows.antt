@@ -1,25 +1,16 @@
 -- Which sets are relevant under each of the strategies that were found, in rows that some share.
-use Rattle.std.specs.Prelude.{◌≡◌, ◌<◌, ◌%◌, ℕ, List, [], get_or, length, map}
+use Rattle.std.specs.Prelude.{◌≡◌, ◌<◌, ℕ, List, [], get_or, length, map}
 use Rattle.std.specs.List.{AllByRecursion}
-use Rattle.gf_nfg.specs.Profiles.{product}
 use Rattle.gf_tree.specs.KeysInOrder.{player_keys}
 use Rattle.gf_tree.specs.Game.{Game}
-use Rattle.gf_form.specs.Strategies.{all_choices, strategies}
+use Rattle.gf_form.specs.Strategies.{strategies}
 use Rattle.gf_form.specs.inner.reduced.Levels.{IsLevel, can_be_met, is_left}
-use Rattle.gf_form.specs.inner.reduced.Search.{IsFine, actions_of, choices_at, is_relevant_at}
-use Rattle.gf_form.specs.inner.reduced.Search.{numbered, steps_to}
+use Rattle.gf_form.specs.inner.reduced.Search.{choices_at, is_relevant_at, numbered, steps_to}
 use Rattle.gf_form.specs.inner.reduced.Shown.{relevant_sets}
 use Rattle.gf_form.specs.declared.reduced.digits.OwnDigit.{OwnDigit}
 use Rattle.gf_form.specs.declared.reduced.labels.Found.{Found}
 use Rattle.gf_form.specs.declared.reduced.labels.Relevance.{Relevance}
 use Rattle.gf_form.specs.declared.reduced.level.Level.{Level}
-
--- what each strategy chooses at these digits is told by its number, modulo their choices
-pub record ChooseInTurn (g : Game) (player : ℕ) (digits : List OwnDigit) (count : ℕ) : Type 0 where
-  pub fine : AllByRecursion IsFine digits
-  pub counted : count ≡ product (actions_of digits)
-  pub chosen : (n : ℕ) → n < length (strategies g player) → choices_at g player digits n
-      ≡ get_or (all_choices (actions_of digits)) (n % count) []
 
 -- the level tells which sets are relevant under a strategy, by its choices at these digits
 pub record IsTold (g : Game) (player : ℕ) (digits : List OwnDigit) (numbers : List ℕ)

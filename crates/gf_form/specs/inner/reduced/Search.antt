@@ -1,5 +1,5 @@
 -- A search for the first strategies of a player, digit by digit.
-use Rattle.std.specs.Prelude.{◌≡◌, ◌≤◌, ◌<◌, ◌+◌, ◌*◌, ◌^◌, ◌==◌, ◌&&◌, ◌||◌, ℕ, Bool, false}
+use Rattle.std.specs.Prelude.{◌≡◌, ◌≤◌, ◌<◌, ◌+◌, ◌*◌, ◌%◌, ◌^◌, ◌==◌, ◌&&◌, ◌||◌, ℕ, Bool, false}
 use Rattle.std.specs.Prelude.{List, [], drop, get_or, length, map, nat_lt, take}
 use Rattle.std.specs.List.{AllByRecursion}
 use Rattle.gf_nfg.specs.Profiles.{product}
@@ -55,26 +55,12 @@ abbrev pub choices_at : Game → ℕ → List OwnDigit → ℕ → List ℕ
 choices_at g player digits number =
     map (λ d. get_or (numbered g player number) d.place 0) digits
 
--- The strategies with numbers from this one on, as many as the count says, have all choices at
--- these digits in turn.
-pub record HaveChoices (g : Game) (player : ℕ) (digits : List OwnDigit) (number count : ℕ) : Type 0
-  where
-    pub fine : AllByRecursion IsFine digits
-    pub counted : count ≡ product (actions_of digits)
-    pub end : number + count ≤ length (strategies g player)
-    pub few : length (strategies g player) < 2 ^ 32
-    pub chosen : (k n : ℕ) → n ≡ number + k → k < count
-        → choices_at g player digits n ≡ get_or (all_choices (actions_of digits)) k []
-
--- The level tells the flags at so many places under each of these strategies, by what it chooses
--- at the digits, all of which are left.
-pub record IsToldBy (g : Game) (player : ℕ) (digits : List OwnDigit) (flag : ℕ → ℕ → Bool)
-    (places : ℕ) (level : Level) (number count : ℕ) : Type 0
-  where
-    pub choices : HaveChoices g player digits number count
-    pub levelled : IsLevel places level
-    pub tells : (n place : ℕ) → number ≤ n → n < number + count → place < places
-        → flag n place ≡ is_left place (steps_to digits) (choices_at g player digits n) level
+-- what each strategy chooses at these digits is told by its number, modulo their choices
+pub record ChooseInTurn (g : Game) (player : ℕ) (digits : List OwnDigit) (count : ℕ) : Type 0 where
+  pub fine : AllByRecursion IsFine digits
+  pub counted : count ≡ product (actions_of digits)
+  pub chosen : (n : ℕ) → n < length (strategies g player) → choices_at g player digits n
+      ≡ get_or (all_choices (actions_of digits)) (n % count) []
 
 -- ---- first strategies
 
@@ -85,16 +71,24 @@ is_settled g player all depth number j =
     is_relevant_at g player number (digit_at all j).place
     || (nat_lt j depth && get_or (numbered g player number) (digit_at all j).place 0 == 1)
 
--- As many of all digits are chosen as the depth says, by the strategies with numbers from this one
--- on, and these are left.
+-- As many of all digits are chosen as the depth says, and these are left. The strategies with numbers
+-- from this one on, as many as the count says, have all choices there in turn, and the level tells
+-- which digits are settled under each of them.
 pub record IsSearched (g : Game) (player : ℕ) (all digits : List OwnDigit) (level : Level)
     (depth number count : ℕ) : Type 0
   where
     pub all_are : all ≡ digits_from 0 (action_counts g player)
     pub rest : drop depth all ≡ digits
     pub deep : depth ≤ length all
-    pub told : IsToldBy g player digits (is_settled g player all depth) (length all) level number
-        count
+    pub turn : ChooseInTurn g player digits count
+    pub row : ℕ
+    pub start : number ≡ row * count
+    pub end : number + count ≤ length (strategies g player)
+    pub few : length (strategies g player) < 2 ^ 32
+    pub levelled : IsLevel (length all) level
+    pub tells : (n j : ℕ) → number ≤ n → n < number + count → j < length all
+        → is_settled g player all depth n j
+        ≡ is_left j (steps_to digits) (choices_at g player digits n) level
 
 -- the strategy with a number has the first action at each set that is not relevant under it: of
 -- those that reduce to the same one, it is the first

@@ -179,21 +179,6 @@ are_shared count rows all [] h view some = absurd (omega (arith, some))
 are_shared count rows all (k ∷ numbers) h view some =
     record { rows_are = sym view; below = h.below }
 
--- each has some payoffs if there are players
-pub some_paid : (players : ℕ) (rows all : List (List Ratio)) (numbers : List ℕ) → 0 < players
-    → AllByRecursion (λ row. length row ≡ players) (drop 1 rows)
-    → chosen_rows rows numbers ≡ all → length numbers ≡ 0
-    → (drop 1 rows ≡ all) × AllByRecursion (λ row. 0 < length row) all
-some_paid players rows all [] some full view none = (
-  view,
-  subst (λ qs. AllByRecursion (λ row. 0 < length row) qs) view
-      (all_weaker (λ row. length row ≡ players) (λ row. 0 < length row)
-      (λ row is. omega (arith, is, some)) (drop 1 rows) full),
-)
-some_paid players rows all (k ∷ numbers) some full view none = absurd (omega (arith, none))
-
-pub ruleset payoffs_in_turn = (some_paid)
-
 pub ruleset numbers_chosen = (are_shared, row_chosen)
 
 -- ---- a table's counts

@@ -21,14 +21,6 @@ payoff_last width left n more h = grind (arith, nat_tests)
 
 pub ruleset payoff_written = (append_assoc, length-append, payoff_last, payoff_on)
 
--- a text of payoffs has bytes
-pub some_text : (width left written : ℕ) (payoffs : List Ratio) → written < length payoffs
-    → 0 < length (payoffs_text width left (drop written payoffs))
-some_text width left written payoffs h =
-    rw (drop_more payoffs written (whole (pos 0)) h) (grind (arith, length-append))
-
-pub ruleset payoffs_on = (drop_all, drop_more, some_text)
-
 -- ---- full rows
 
 -- a row is a line
@@ -63,15 +55,6 @@ text_parts named t =
     ∷ list_text (map (λ own. list_text (map quoted own)) names.strategies)
     ∷ quoted names.comment ∷ [] ∷ [] in
     flat_map-append (λ (line : List ℕ). line ++ 10 ∷ []) heads (map row_text (rows t))
-
--- a heading, and the payoffs of the rows
-pub laid_text : (t : Table) (names : Names) (payoffs : List Ratio) → names ≡ names_in t → IsTable t
-    → AllByRecursion (λ row. 0 < length row) (rows t) → payoffs ≡ joined (rows t)
-    → heading_text names ++ payoffs_text (length names.players) (length names.players) payoffs
-    ≡ table_text t
-laid_text t names payoffs n h some e =
-    let lines = rows_laid (length t.players) (rows t) some h.one_payoff_each in
-    rw (n, e, lines) (sym (text_parts true t))
 
 -- a heading, and rows
 pub text_of_rows : (t : Table) (names : Names) (rs : List (List Ratio)) → names ≡ names_in t

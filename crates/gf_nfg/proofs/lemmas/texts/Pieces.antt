@@ -7,6 +7,7 @@ use Rattle.gf_nfg.proofs.Common.{drop_more, slice_get_within, get_or_from_slice_
 use Rattle.gf_nfg.proofs.Common.{slice_get, arith, length-take, append-nil, lines_text, others_text}
 use Rattle.gf_fraction.specs.NumberText.{number_text}
 use Rattle.gf_nfg.specs.inner.ListsLeft.{items_text}
+use Rattle.gf_nfg.specs.inner.TextParts.{lines_rest}
 
 spaced_items : (first : List ℕ) (items : List (List ℕ))
     → spaced (first ∷ (items ++ codes "}" ∷ [])) ≡ first ++ 32 ∷ items_text items
@@ -47,10 +48,6 @@ abbrev pub payoffs_rest : List Ratio → List ℕ
 payoffs_rest payoffs = others_text (map number_text payoffs)
 
 pub ruleset rows_spaced = (append_assoc, spaced_is)
-
--- the lines of the rows still to come
-abbrev pub lines_rest : List (List Ratio) → ℕ → List ℕ
-lines_rest rs at = lines_text (map row_text (drop at rs))
 
 -- a row more was written
 pub row_written : (rs : List (List Ratio)) (at : ℕ) (row : List Ratio) (old new whole : List ℕ)

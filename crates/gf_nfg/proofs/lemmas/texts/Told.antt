@@ -1,6 +1,6 @@
 -- What a text has of a file that is being told, and that it is the canonical text at the end.
 use Rattle.gf_nfg.proofs.Common
-use Common.{IsWithinLimit, append_assoc, content_with, heading_text, HasToldTable, SpellsTable, ◌≡◌}
+use Common.{IsWithinLimit, content_with, heading_text, HasToldTable, SpellsTable, ◌≡◌}
 use Common.{append-nil, all_weaker, IsComplete, content_of, lines_text, table_text, MeansTable, suc}
 use Common.{laid_lines, names_in, table_of, named_by, names_by, row_text, mul_comm, Outcomes, arith}
 use Common.{Content, rows_by, rows_of, AreLaid, HasText, Heading, Payoffs, length, Ratio, Table, []}

@@ -1,12 +1,10 @@
 use Rattle.std.proofs.Common.{append-nil, Option, Some, None, Ok, Err, inl, inr, ap, arith, subst}
-use Rattle.std.proofs.Common.{sym}
-use Rattle.std.proofs.Common.{◌≡◌, ◌∙◌, ℕ, List, [], ◌++◌, take, zero, suc, append_assoc}
+use Rattle.std.proofs.Common.{sym, ◌≡◌, ◌∙◌, ℕ, List, [], ◌++◌, take, zero, suc, append_assoc}
 use Rattle.std.specs.Prelude.{◌⊎◌}
 use Rattle.std.specs.declared.io.Error.{Error}
-use Rattle.gf_run.specs.Input.{IsReadWhole}
-use Rattle.gf_run.specs.Kept.{Keeps, bytes_kept, kept_reader}
-use Rattle.gf_run.specs.Streams.{Reader}
-use Rattle.gf_run.specs.Turns.{Interruptions, Moves, Transfers, none, more}
+use Rattle.gf_run.specs.Transfers.{HasLength, IsReadWhole}
+use Rattle.gf_run.specs.Wrapped.{Keeps, bytes_kept, kept_reader}
+use Rattle.gf_run.specs.Streams.{Interruptions, Moves, Stream, Transfers, more, none}
 use Rattle.gf_run.specs.declared.streams.kept.Kept.{Kept}
 use Rattle.gf_run.proofs.laws.kept_is_read.Goals as goal
 
@@ -39,7 +37,7 @@ all : (bytes : List ℕ) (mid after : Option (List ℕ)) → IsMore (Some []) by
 all bytes mid after (inl h) k = grind (arith, append-nil)
 all bytes mid after (inr h) k = grind arith
 
-module _ {S : Type 0} (reader : Reader S) where
+module _ {S : Type 0} (reader : Stream S) where
   after_interruptions : (P : List ℕ → Type 0) (n : ℕ) (old new : Kept S)
       → Interruptions (kept_reader reader).gives P n old new → bytes_kept new ≡ bytes_kept old
   unfolding Interruptions
@@ -58,21 +56,22 @@ module _ {S : Type 0} (reader : Reader S) where
       subst (λ (kept : Option (List ℕ)). IsMore kept (take n bytes) (bytes_kept new)) same
       (after_bytes (bytes_kept mid) (bytes_kept new) bytes n h.turn.last.1)
 
-  after_turns : (Asks : List ℕ → List ℕ → Type 0) (start moved : List ℕ) (old new : Kept S)
-      → bytes_kept old ≡ Some start → Transfers (kept_reader reader).gives Asks moved old new
+  after_turns : (Asks : List ℕ → ℕ → Type 0) (start moved : List ℕ) (old new : Kept S)
+      → bytes_kept old ≡ Some start
+      → Transfers (kept_reader reader).gives HasLength Asks moved old new
       → IsMore (Some start) moved (bytes_kept new)
   after_turns Asks start moved old new is (none s) = inl (is ∙ ap Some (sym (append-nil start)))
-  after_turns Asks start moved old new is (more front bytes n _ mid _ turns some turn) =
+  after_turns Asks start moved old new is (more front room bytes n _ mid _ turns asks some turn) =
       IsMore-trans (Some start) (bytes_kept mid) (bytes_kept new) front (take n bytes)
       (after_turns Asks start front old mid is turns)
-      (after_turn (Asks front) bytes n mid new turn)
+      (after_turn (HasLength room) bytes n mid new turn)
 
   -- all that was read
   kept_whole : (bytes : List ℕ) (old new : Kept S) → bytes_kept old ≡ Some []
       → IsReadWhole (kept_reader reader) old new bytes
       → (bytes_kept new ≡ Some bytes) ⊎ (bytes_kept new ≡ None)
   kept_whole bytes old new is h =
-      let before = after_turns _ [] bytes old h.mid is h.turns in
+      let before = after_turns _ [] bytes old h.mid is h.read.turns in
       let last = after_turn _ h.buffer 0 h.mid new h.last in
       all bytes (bytes_kept h.mid) (bytes_kept new) before last
 

@@ -1,7 +1,7 @@
 use Rattle.std.proofs.Common.{◌≡◌, ◌↔◌, ◌∙◌, ℕ, List, map, refl, sym, subst}
 use Rattle.std.specs.List.{Contains}
-use Rattle.gf_tree.proofs.Offered.{in_filter, is_used, of_filter, contains, has, has_map}
-use Rattle.gf_tree.proofs.Offered.{mapped_from}
+use Rattle.gf_tree.proofs.Offered.{contains, has, has_map, in_filter, is_used, mapped_from}
+use Rattle.gf_tree.proofs.Offered.{of_filter}
 use Rattle.gf_run.proofs.Grouped.{same_hash_equality}
 use Rattle.gf_run.specs.Duplicates.{AreInOneGroup, HashedFile, groups_of, hashes_of, having}
 use Rattle.gf_run.specs.Duplicates.{same_hash}

@@ -1,5 +1,4 @@
-use Rattle.std.proofs.lemmas.Grind.{common_steps}
-use Rattle.gf_form.proofs.Common.{arith}
+use Rattle.gf_form.proofs.Common.{common_steps, arith}
 use Rattle.gf_form.proofs.reduced.first.own_visits.Goals as goal
 
 pub loop-position-preserved : goal.loop-position-preserved

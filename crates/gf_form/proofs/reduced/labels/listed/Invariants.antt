@@ -1,5 +1,4 @@
-use Rattle.gf_form.proofs.Common.{◌≡◌, ◌<◌, ℕ, get_or, length}
-use Rattle.gf_form.specs.declared.reduced.labels.Found.{Found}
+use Rattle.gf_form.proofs.Common.{get_or, length, Found, ◌<◌, ◌≡◌, ℕ}
 use Rattle.gf_form.proofs.reduced.labels.listed.Given as goal
 
 abbrev pub invariant-loop-place : goal.invariant-loop-place

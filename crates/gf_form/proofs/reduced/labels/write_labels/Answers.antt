@@ -1,8 +1,7 @@
-use Rattle.gf_form.proofs.Common.{arith, length, get_or, all_choices, numbered, List, ap, sym, ◌≡◌}
-use Rattle.gf_form.proofs.Common.{◌∙◌, [], ℕ}
-use Rattle.gf_form.proofs.lemmas.reduced.RowsGiven.{number_within, row_fits, label_more}
-use Rattle.gf_form.proofs.lemmas.reduced.RowsGiven.{labels_written}
-use Rattle.std.proofs.lemmas.List.{take_all}
+use Rattle.gf_form.proofs.Common.{all_choices, numbered, take_all, get_or, length, arith, List, sym}
+use Rattle.gf_form.proofs.Common.{◌∙◌, ◌≡◌, [], ap, ℕ}
+use Rattle.gf_form.proofs.lemmas.reduced.RowsGiven.{labels_written, number_within, label_more}
+use Rattle.gf_form.proofs.lemmas.reduced.RowsGiven.{row_fits}
 use Rattle.gf_form.proofs.reduced.labels.write_labels.Goals.{After-deref}
 use Rattle.gf_form.proofs.reduced.labels.write_labels.Goals as goal
 

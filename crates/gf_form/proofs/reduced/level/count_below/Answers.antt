@@ -1,5 +1,4 @@
-use Rattle.gf_form.proofs.Common.{rules, arith, nat_lt, Visit}
-use Rattle.std.proofs.lemmas.Bool.{ltb-false, ltb-true}
+use Rattle.gf_form.proofs.Common.{ltb-false, ltb-true, nat_lt, Visit, arith, rules}
 use Rattle.std.proofs.lemmas.List.Sorted.{IsPartitionPoint-from_clause, IsPartitionedBy-ltb}
 use Rattle.gf_form.proofs.reduced.level.count_below.Goals as goal
 

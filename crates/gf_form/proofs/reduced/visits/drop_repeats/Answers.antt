@@ -1,7 +1,6 @@
-use Rattle.gf_form.proofs.Common.{list_any, Visit, arith, Bool, List, true, refl, ◌≡◌, ◌∷◌, ◌∙◌, []}
-use Rattle.gf_form.proofs.Common.{ap}
+use Rattle.gf_form.proofs.Common.{dedup_from, list_any, Visit, arith, dedup, Bool, List, refl, true}
+use Rattle.gf_form.proofs.Common.{◌∙◌, ◌∷◌, ◌≡◌, [], ap}
 use Rattle.std.proofs.lemmas.List.Filters.{dedup_is}
-use Rattle.std.specs.List.{dedup_from, dedup}
 use Rattle.gf_form.proofs.reduced.visits.drop_repeats.Goals as goal
 
 -- what a test finds is found again if neighbours that are equal are kept once

@@ -1,6 +1,5 @@
-use Rattle.gf_form.proofs.Common.{IsNonDecreasingBy-from_sort_by_key, mod-lt, arith, rules, sym}
-use Rattle.std.proofs.lemmas.List.Sorted.{list_any-IsPermutation}
-use Rattle.gf_form.specs.inner.reduced.Visits.{order_of}
+use Rattle.gf_form.proofs.Common.{IsNonDecreasingBy-from_sort_by_key, list_any-IsPermutation, arith}
+use Rattle.gf_form.proofs.Common.{order_of, mod-lt, rules, sym}
 use Rattle.gf_form.proofs.reduced.visits.put_in_order.Goals as goal
 
 pub returns-clause-same : goal.returns-clause-same

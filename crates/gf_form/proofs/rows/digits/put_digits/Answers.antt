@@ -1,6 +1,5 @@
-use Rattle.gf_form.proofs.Common.{arith, drop, ◌++◌, ◌-◌}
-use Rattle.std.proofs.lemmas.List.{reverse-append}
-use Rattle.gf_form.proofs.lemmas.rows.Digits.{cut, width_left}
+use Rattle.gf_form.proofs.Common.{reverse-append, arith, drop, ◌++◌, ◌-◌}
+use Rattle.gf_form.proofs.lemmas.rows.Digits.{width_left, cut}
 use Rattle.gf_form.proofs.rows.digits.put_digits.Goals as goal
 
 pub loop-place-preserved : goal.loop-place-preserved

@@ -1,5 +1,4 @@
-use Rattle.gf_form.proofs.Common.{◌≡◌, ◌++◌, ℕ, List, drop, AreDigitsOf, steps_after}
-use Rattle.std.proofs.Common.{reverse}
+use Rattle.gf_form.proofs.Common.{AreDigitsOf, steps_after, reverse, List, drop, ◌++◌, ◌≡◌, ℕ}
 use Rattle.gf_form.proofs.rows.digits.put_digits.Given as goal
 
 abbrev pub invariant-loop-place : goal.invariant-loop-place

@@ -1,6 +1,4 @@
-use Rattle.gf_form.proofs.Common.{arith}
-use Rattle.std.proofs.Common.{reverse}
-use Rattle.std.proofs.lemmas.List.{reverse-append}
+use Rattle.gf_form.proofs.Common.{reverse-append, reverse, arith}
 use Rattle.gf_form.proofs.lemmas.rows.Digits.{stride_more}
 use Rattle.gf_form.proofs.rows.digits.strides.Goals as goal
 

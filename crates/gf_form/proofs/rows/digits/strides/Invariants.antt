@@ -1,6 +1,5 @@
-use Rattle.gf_form.proofs.Common.{◌≡◌, ◌++◌, ◌<◌, ◌^◌, ℕ, List, ArePositive, drop, product}
-use Rattle.std.proofs.Common.{reverse}
-use Rattle.gf_form.specs.inner.rows.DigitSteps.{strides_of}
+use Rattle.gf_form.proofs.Common.{ArePositive, strides_of, product, reverse, List, drop, ◌++◌, ◌<◌}
+use Rattle.gf_form.proofs.Common.{◌^◌, ◌≡◌, ℕ}
 use Rattle.gf_form.proofs.rows.digits.strides.Given as goal
 
 abbrev pub invariant-loop-place : goal.invariant-loop-place

@@ -1,8 +1,7 @@
-use Rattle.gf_form.proofs.Common.{rows_of, Scaled, Ratio, arith, List, Path, lit<, refl, ◌++◌, pos}
-use Rattle.gf_form.proofs.Common.{◌<◌, ◌∙◌, ◌∷◌, ◌≡◌, ◌≤◌, [], ap, ℕ, ℤ}
-use Rattle.gf_form.specs.inner.rows.ListedNodes.{IsShareAt}
+use Rattle.gf_form.proofs.Common.{IsShareAt, rows_of, Scaled, Ratio, arith, List, Path, lit<, refl}
+use Rattle.gf_form.proofs.Common.{◌++◌, pos, ◌<◌, ◌∙◌, ◌∷◌, ◌≡◌, ◌≤◌, [], ap, ℕ, ℤ}
 use Rattle.gf_form.proofs.lemmas.rows.FlatRows.{one_item, in_bits}
-use Rattle.gf_form.proofs.rows.listed.push_shares.Goals.{in-Some, in-None}
+use Rattle.gf_form.proofs.rows.listed.push_shares.Goals.{in-None, in-Some}
 use Rattle.gf_form.proofs.rows.listed.push_shares.Goals as goal
 
 -- over the same denominator, or none, and of no smaller size

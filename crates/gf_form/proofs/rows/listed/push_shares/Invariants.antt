@@ -1,6 +1,5 @@
-use Rattle.gf_form.proofs.Common.{rows_of}
+use Rattle.gf_form.proofs.Common.{IsShareAt, rows_of}
 use Rattle.gf_form.specs.inner.rows.ItemRows.{HasRow}
-use Rattle.gf_form.specs.inner.rows.ListedNodes.{IsShareAt}
 use Rattle.gf_form.proofs.rows.listed.push_shares.Given as goal
 
 abbrev pub invariant-loop-place : goal.invariant-loop-place

@@ -1,12 +1,9 @@
-use Rattle.gf_form.proofs.Common.{take-length, map-append, node_terms, IsExactAt, node_term, length}
-use Rattle.gf_form.proofs.Common.{take_more, all_both, at_place, ArePaid, rows_of, term_of, row_at}
-use Rattle.gf_form.proofs.Common.{Ratio, arith, Game, List, Path, ints, take, ◌++◌, ◌+ℤ◌, suc, ◌+◌}
-use Rattle.gf_form.proofs.Common.{◌∷◌, ◌≡◌, [], ℕ, ℤ}
-use Rattle.gf_form.specs.inner.rows.ListedNodes.{HasShares}
-use Rattle.gf_form.specs.inner.rows.Shares.{IsShare}
+use Rattle.gf_form.proofs.Common.{take-length, map-append, node_terms, HasShares, IsExactAt, length}
+use Rattle.gf_form.proofs.Common.{node_term, take_more, all_both, at_place, ArePaid, IsShare, Ratio}
+use Rattle.gf_form.proofs.Common.{rows_of, term_of, row_at, Share, arith, Game, List, Path, ints, ℕ}
+use Rattle.gf_form.proofs.Common.{take, ◌++◌, ◌+ℤ◌, suc, ◌+◌, ◌∷◌, ◌≡◌, [], ℤ}
 use Rattle.gf_form.proofs.lemmas.rows.FlatRows.{in_bits}
-use Rattle.gf_form.proofs.lemmas.rows.ListedTerms.{shares_append, bounds_append, no_node, node_at}
-use Rattle.gf_form.specs.declared.rows.share.Share.{Share}
+use Rattle.gf_form.proofs.lemmas.rows.ListedTerms.{bounds_append, shares_append, no_node, node_at}
 use Rattle.gf_form.proofs.rows.listed.shares_of.Goals as goal
 
 one_share_more : (g : Game) (rows : List (List Ratio)) (k den : ℕ) (rs : List Path)

@@ -1,5 +1,4 @@
-use Rattle.gf_form.proofs.Common.{take, Game, IsWithin, rows_of, ArePaid}
-use Rattle.gf_form.specs.inner.rows.ListedNodes.{HasShares}
+use Rattle.gf_form.proofs.Common.{HasShares, IsWithin, ArePaid, rows_of, Game, take}
 use Rattle.gf_form.proofs.rows.listed.shares_of.Given as goal
 
 abbrev pub invariant-loop-node : goal.invariant-loop-node

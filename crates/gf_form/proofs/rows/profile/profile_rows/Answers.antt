@@ -1,5 +1,4 @@
-use Rattle.std.proofs.lemmas.Grind.{common_steps}
-use Rattle.gf_form.proofs.Common.{digit_actions, rows_of, get_or, arith, sym, ◌∙◌}
+use Rattle.gf_form.proofs.Common.{digit_actions, common_steps, rows_of, get_or, arith, sym, ◌∙◌}
 use Rattle.gf_form.proofs.lemmas.rows.PayingTerms.{settle_all, settled_at}
 use Rattle.gf_form.proofs.rows.profile.profile_rows.Goals as goal
 

@@ -1,10 +1,7 @@
-use Rattle.gf_form.proofs.Common.{fits_signed_from_abs, unsigned_abs-mul, unsigned_abs, to_z-of_z}
-use Rattle.gf_form.proofs.Common.{mul_assoc, *ℤ_assoc, term_of, *ℤ-zero, one-dvd, zero-*ℤ, ne_eqb}
-use Rattle.gf_form.proofs.Common.{arith, subst, Ratio, ◌*ℤ◌, ints, refl, Path, ap}
-use Rattle.gf_form.proofs.Common.{◌≡◌, ◌∙◌, ◌*◌, pos, ℕ}
-use Rattle.gf_form.specs.inner.rows.TermLists.{IsFactor}
-use Rattle.gf_form.specs.inner.rows.Shares.{IsShare}
-use Rattle.gf_form.specs.declared.rows.share.Share.{Share}
+use Rattle.gf_form.proofs.Common.{fits_signed_from_abs, unsigned_abs-mul, unsigned_abs, mul_assoc}
+use Rattle.gf_form.proofs.Common.{to_z-of_z, *ℤ_assoc, IsFactor, *ℤ-zero, IsShare, one-dvd, term_of}
+use Rattle.gf_form.proofs.Common.{zero-*ℤ, ne_eqb, Ratio, Share, arith, subst, Path, ints, refl, ap}
+use Rattle.gf_form.proofs.Common.{◌*ℤ◌, pos, ◌*◌, ◌∙◌, ◌≡◌, ℕ}
 use Rattle.gf_form.proofs.rows.share.share_of.Goals as goal
 
 -- nothing is added to a payoff of zero

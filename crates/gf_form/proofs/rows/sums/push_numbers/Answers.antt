@@ -1,6 +1,5 @@
-use Rattle.gf_form.proofs.Common.{arith, ◌++◌, pos, ◌∙◌, ◌∷◌, [], ap, ℤ}
-use Rattle.gf_form.specs.inner.rows.TermLists.{IsSumAt}
-use Rattle.gf_form.proofs.lemmas.rows.FlatRows.{in_bits, one_item}
+use Rattle.gf_form.proofs.Common.{IsSumAt, arith, ◌++◌, pos, ◌∙◌, ◌∷◌, [], ap, ℤ}
+use Rattle.gf_form.proofs.lemmas.rows.FlatRows.{one_item, in_bits}
 use Rattle.gf_form.proofs.rows.sums.push_numbers.Goals.{in-None, in-Some}
 use Rattle.gf_form.proofs.rows.sums.push_numbers.Goals as goal
 

@@ -1,5 +1,4 @@
-use Rattle.gf_form.proofs.Common.{◌+◌, ◌-◌, ◌≡◌, ◌<◌, ◌≤◌, length, vec_capacity, vec_len}
-use Rattle.gf_form.specs.inner.rows.TermLists.{IsSumAt}
+use Rattle.gf_form.proofs.Common.{vec_capacity, IsSumAt, vec_len, length, ◌+◌, ◌-◌, ◌<◌, ◌≡◌, ◌≤◌}
 use Rattle.gf_form.specs.inner.rows.ItemRows.{HasRow}
 use Rattle.gf_form.proofs.rows.sums.push_numbers.Given as goal
 

@@ -1,5 +1,4 @@
-use Rattle.std.proofs.lemmas.Grind.{common_steps}
-use Rattle.gf_form.proofs.Common.{arith, refl}
+use Rattle.gf_form.proofs.Common.{common_steps, arith, refl}
 use Rattle.gf_form.proofs.lemmas.strategies.StrategiesByNumber.{goes_on}
 use Rattle.gf_form.proofs.strategies.numbered.write_strategy.Goals as goal
 

@@ -1,5 +1,4 @@
-use Rattle.std.proofs.lemmas.Grind.{common_steps}
-use Rattle.gf_form.proofs.Common.{arith}
+use Rattle.gf_form.proofs.Common.{common_steps, arith}
 use Rattle.gf_form.proofs.lemmas.strategies.PickedProfiles.{sum_steps}
 use Rattle.gf_form.proofs.strategies.profile_numbers.with_player.Goals as goal
 

@@ -1,6 +1,5 @@
-use Rattle.gf_form.proofs.Common.{◌≡◌, ◌++◌, branches_left, child_trees, game_of, map, tree_of}
-use Rattle.gf_tree.specs.BranchesLeft.{game_of_branches}
-use Rattle.gf_form.specs.inner.values.NodeLists.{AreOf}
+use Rattle.gf_form.proofs.Common.{game_of_branches, branches_left, child_trees, game_of, tree_of}
+use Rattle.gf_form.proofs.Common.{AreOf, ◌++◌, map, ◌≡◌}
 use Rattle.gf_form.proofs.values.nodes.push_children.Given as goal
 
 abbrev pub invariant-loop-child : goal.invariant-loop-child

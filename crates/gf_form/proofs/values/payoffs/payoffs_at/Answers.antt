@@ -1,6 +1,5 @@
-use Rattle.gf_form.proofs.Common.{label_of, sym}
-use Rattle.gf_tree.specs.Description.{outcome_with}
-use Rattle.gf_form.proofs.lemmas.values.Walks.{paid_some, row_of_outcome}
+use Rattle.gf_form.proofs.Common.{outcome_with, label_of, sym}
+use Rattle.gf_form.proofs.lemmas.values.Walks.{row_of_outcome, paid_some}
 use Rattle.gf_form.proofs.values.payoffs.payoffs_at.Goals as goal
 
 pub returns-clause-paid : goal.returns-clause-paid

@@ -1,5 +1,5 @@
 use Rattle.std.proofs.Common.{refl}
-use Rattle.gf_run.specs.CollectionRun.{canonical, refused, replaced}
+use Rattle.gf_run.specs.Performs.{canonical, refused, replaced}
 use Rattle.gf_run.proofs.Errors.{is_failed}
 use Rattle.gf_run.proofs.collections.rewrite.put_text.Goals as goal
 

@@ -1,19 +1,14 @@
+use Rattle.gf_run.proofs.Asked.{nothing_yet}
 use Rattle.gf_run.proofs.Errors.{OnErr-always}
-use Rattle.gf_run.proofs.MoreWritten.{IsBegun-cut, IsBegun-none, IsBegun-part}
 use Rattle.gf_run.proofs.texts.answer.push_text.Goals as goal
 
 pub loop-output-init : goal.loop-output-init
-loop-output-init g c = IsBegun-none _ _ _
+loop-output-init g c = nothing_yet _ _ _
 
 pub loop-output-preserved : goal.loop-output-preserved
-loop-output-preserved g c =
-    let written = c.in_ok-push_all.ensures in
-    IsBegun-part _ _ _ _ _ _ c.piece.result.now c.advance.new.self.rest
-    c.loop-output.invariant (rw c.piece.ensures c.loop-output-test.ensures.given) written.all
-    written.grown
+loop-output-preserved g c = c.in_ok-push_all.ensures.next _ _ _
+    (rw c.piece.ensures (rw c.loop-output-test.ensures.given at c.loop-output.invariant))
 
 pub returns-in_err-push_all-clause-part : goal.returns-in_err-push_all-clause-part
-returns-in_err-push_all-clause-part g c = OnErr-always _ _
-    (IsBegun-cut _ _ _ _ _ _ c.piece.result.now c.advance.new.self.rest
-    c.loop-output.invariant (rw c.piece.ensures c.loop-output-test.ensures.given)
-    c.in_err-push_all.ensures.part)
+returns-in_err-push_all-clause-part g c = OnErr-always _ _ (c.in_err-push_all.ensures.next _ _
+    c.advance.new.self.rest (rw c.piece.ensures (rw c.loop-output-test.ensures.given at c.loop-output.invariant)))

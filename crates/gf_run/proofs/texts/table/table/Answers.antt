@@ -4,7 +4,6 @@ use Rattle.gf_canon.specs.CanonicalText.{SpellsWithin}
 use Rattle.gf_canon.specs.GameFile.GameFile.{extensive, strategic}
 use Rattle.gf_canon.specs.GameFile.{GameFile}
 use Rattle.gf_canon.specs.MeaningOf.{file_of}
-use Rattle.gf_form.specs.declared.fault.FormFault.TheVariants as form
 use Rattle.gf_form.specs.declared.fault.FormFault.{FormFault}
 use Rattle.gf_form.specs.declared.forms.Strategies.{Strategies}
 use Rattle.gf_token.proofs.Offered.{few_ahead}
@@ -13,9 +12,8 @@ use Rattle.gf_tree.specs.Game.{Game}
 use Rattle.gf_tree.specs.GameOf.{SpellsGame}
 use Rattle.gf_run.proofs.Errors.{only_error}
 use Rattle.gf_run.specs.Faults.{form_fault}
-use Rattle.gf_run.specs.FormText.{IsFormFault, FileHasFewPlayers}
-use Rattle.gf_run.specs.Input.{limit}
-use Rattle.gf_run.specs.NoAnswer.{IsFaultOfBytes}
+use Rattle.gf_run.specs.FormText.{FileHasFewPlayers, IsFaultOfBytes, IsFileWithoutForm}
+use Rattle.gf_run.specs.Transfers.{limit}
 use Rattle.gf_run.proofs.texts.table.table.Goals as goal
 
 -- each player's name is a token
@@ -43,11 +41,11 @@ few_players bytes (strategic t) within x = tt
 
 -- why a file has no table is why its bytes have no answer
 without_table : (strategies : Strategies) (bytes : List ℕ) (x : GameFile) (fault : FormFault)
-    → SpellsWithin bytes x → IsFormFault strategies x fault
+    → SpellsWithin bytes x → IsFileWithoutForm strategies x fault
     → IsFaultOfBytes strategies bytes (form_fault fault)
-without_table strategies bytes x form.TooManyProfiles spelled is = (x, spelled, is)
-without_table strategies bytes x (form.Overflow profile) spelled is = (x, spelled, is)
-without_table strategies bytes x form.Memory spelled is = (x, spelled)
+without_table strategies bytes x FormFault.TooManyProfiles spelled is = (x, spelled, is)
+without_table strategies bytes x (FormFault.Overflow profile) spelled is = (x, spelled, is)
+without_table strategies bytes x FormFault.Memory spelled is = (x, spelled)
 
 pub table_of-requires : goal.table_of-requires
 table_of-requires c =

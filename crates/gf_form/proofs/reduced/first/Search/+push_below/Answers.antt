@@ -1,8 +1,7 @@
-use Rattle.std.proofs.lemmas.Grind.{common_steps}
-use Rattle.gf_form.proofs.Common.{AreFoundTo, length, arith, subst, ◌≡◌, ◌+◌, ◌*◌, ◌/◌, ◌∙◌, ap}
+use Rattle.gf_form.proofs.Common.{nil_from_length, common_steps, AreFoundTo, length, arith, subst}
+use Rattle.gf_form.proofs.Common.{◌*◌, ◌+◌, ◌/◌, ◌∙◌, ◌≡◌, ap}
 use Rattle.gf_form.proofs.lemmas.reduced.Searches.{next_searched, known_firsts, last_firsts}
 use Rattle.gf_form.proofs.lemmas.reduced.Searches.{none_found, all_found}
-use Rattle.std.proofs.lemmas.List.{nil_from_length}
 use Rattle.gf_form.proofs.reduced.first.Search.+push_below.Goals as goal
 
 pub push_all-requires-clause-firsts : goal.push_all-requires-clause-firsts

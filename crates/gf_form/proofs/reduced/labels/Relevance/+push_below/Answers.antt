@@ -1,13 +1,10 @@
-use Rattle.gf_form.proofs.Common.{arith, length, append_assoc, take-append-drop, ap, ◌∙◌}
-use Rattle.gf_form.proofs.Common.{[], ◌++◌, ◌≡◌, ◌-◌, ◌+◌, slice_get, Some, refl, subst, List, on_ok_weaker}
-use Rattle.gf_form.proofs.Common.{sym}
-use Rattle.std.proofs.lemmas.List.{nil_from_length}
+use Rattle.gf_form.proofs.Common.{take-append-drop, nil_from_length, append_assoc, on_ok_weaker, []}
+use Rattle.gf_form.proofs.Common.{slice_get, AreGiven, length, Found, arith, subst, List, Some, sym}
+use Rattle.gf_form.proofs.Common.{refl, ◌++◌, ◌+◌, ◌-◌, ◌∙◌, ◌≡◌, ap}
 use Rattle.std.proofs.lemmas.List.Sorted.{IsPermutation-refl}
-use Rattle.gf_form.specs.declared.reduced.labels.Found.{Found}
-use Rattle.gf_form.specs.inner.reduced.Rows.{AreGiven}
-use Rattle.gf_form.proofs.lemmas.reduced.RowsGiven.{turn_next, told_free, told_chosen, action_fits}
-use Rattle.gf_form.proofs.lemmas.reduced.RowsGiven.{given_permuted, both_given, nothing_given}
-use Rattle.gf_form.proofs.lemmas.reduced.RowsGiven.{each_some, count_some}
+use Rattle.gf_form.proofs.lemmas.reduced.RowsGiven.{given_permuted, nothing_given, both_given}
+use Rattle.gf_form.proofs.lemmas.reduced.RowsGiven.{told_chosen, told_free}
+use Rattle.gf_form.proofs.lemmas.reduced.Searches.{action_fits, count_some, each_some, turn_next}
 use Rattle.gf_form.proofs.reduced.labels.Relevance.+push_below.Goals as goal
 
 pub push_below-requires : goal.push_below-requires

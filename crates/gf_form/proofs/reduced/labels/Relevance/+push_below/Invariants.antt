@@ -1,6 +1,4 @@
-use Rattle.gf_form.proofs.Common.{◌≡◌, ◌++◌, List, length}
-use Rattle.gf_form.specs.inner.reduced.Rows.{AreGiven}
-use Rattle.gf_form.specs.declared.reduced.labels.Found.{Found}
+use Rattle.gf_form.proofs.Common.{AreGiven, length, Found, List, ◌++◌, ◌≡◌}
 use Rattle.gf_form.proofs.reduced.labels.Relevance.+push_below.Given as goal
 
 abbrev pub decreases-push_below : goal.decreases-push_below

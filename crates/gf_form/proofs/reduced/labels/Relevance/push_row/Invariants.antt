@@ -1,6 +1,4 @@
-use Rattle.gf_form.proofs.Common.{◌<◌, [], get_or, length, map, take}
-use Rattle.gf_form.specs.inner.reduced.Levels.{Marks}
-use Rattle.gf_form.specs.inner.reduced.Rows.{AreGiven}
+use Rattle.gf_form.proofs.Common.{AreGiven, get_or, length, Marks, take, map, ◌<◌, []}
 use Rattle.gf_form.proofs.reduced.labels.Relevance.push_row.Given as goal
 
 abbrev pub invariant-loop-found : goal.invariant-loop-found

@@ -1,5 +1,4 @@
-use Rattle.gf_form.proofs.Common.{sym, ◌∙◌, ap, arith, ◌++◌}
-use Rattle.gf_form.specs.inner.rows.Descents.{next_stops, stops_after}
+use Rattle.gf_form.proofs.Common.{stops_after, next_stops, arith, ◌++◌, sym, ◌∙◌, ap}
 use Rattle.gf_form.proofs.rows.descent.Descent.next.Goals as goal
 
 pub returns-in-Some : goal.returns-in-Some

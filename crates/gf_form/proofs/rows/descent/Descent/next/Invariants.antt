@@ -1,5 +1,4 @@
-use Rattle.gf_form.proofs.Common.{◌≡◌, stops_left}
-use Rattle.gf_form.specs.inner.rows.Descents.{turns_left}
+use Rattle.gf_form.proofs.Common.{stops_left, turns_left, ◌≡◌}
 use Rattle.gf_form.proofs.rows.descent.Descent.next.Given as goal
 
 abbrev pub invariant-loop-branch : goal.invariant-loop-branch

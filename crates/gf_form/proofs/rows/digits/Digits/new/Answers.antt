@@ -1,10 +1,8 @@
-use Rattle.gf_form.proofs.Common.{steps_after, length-map, in_order, Global, get_or, length, arith}
-use Rattle.gf_form.proofs.Common.{take, Vec, ◌<◌, ◌≡◌, [], ap, ℕ}
-use Rattle.gf_form.specs.inner.rows.DigitSteps.{strides_of}
-use Rattle.gf_form.proofs.lemmas.strategies.CountedActions.{take_past, actions_in, own_read}
-use Rattle.gf_form.proofs.lemmas.rows.Digits.{steps_long, strides_long, player_made, player_order}
-use Rattle.gf_form.proofs.lemmas.rows.GameDigits.{width_fits, first_few, has_digits}
-use Rattle.std.proofs.lemmas.List.{map_push}
+use Rattle.gf_form.proofs.Common.{steps_after, length-map, strides_of, in_order, map_push, Global}
+use Rattle.gf_form.proofs.Common.{get_or, length, arith, take, Vec, ◌<◌, ◌≡◌, [], ap, ℕ}
+use Rattle.gf_form.proofs.lemmas.strategies.CountedActions.{actions_in, take_past, own_read}
+use Rattle.gf_form.proofs.lemmas.rows.Digits.{player_order, strides_long, player_made, steps_long}
+use Rattle.gf_form.proofs.lemmas.rows.GameDigits.{has_digits, width_fits, first_few}
 use Rattle.gf_form.proofs.rows.digits.Digits.new.Goals as goal
 
 pub unwrap-own_steps-requires : goal.unwrap-own_steps-requires

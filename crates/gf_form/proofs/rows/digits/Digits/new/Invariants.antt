@@ -1,6 +1,5 @@
-use Rattle.gf_form.proofs.Common.{AreDigitsOf, AreMadeOf, in_order, map, product, steps_after, take}
-use Rattle.gf_form.proofs.Common.{◌≡◌}
-use Rattle.gf_form.specs.inner.rows.DigitSteps.{strides_of}
+use Rattle.gf_form.proofs.Common.{AreDigitsOf, steps_after, strides_of, AreMadeOf, in_order, take}
+use Rattle.gf_form.proofs.Common.{product, map, ◌≡◌}
 use Rattle.gf_form.proofs.lemmas.strategies.CountedActions.{actions_in}
 use Rattle.gf_form.proofs.rows.digits.Digits.new.Given as goal
 

@@ -1,9 +1,8 @@
-use Rattle.std.proofs.lemmas.Grind.{common_steps}
-use Rattle.gf_form.proofs.Common.{actions_at, all_terms, arith, ◌∙◌, ◌∷◌, ◌≡◌}
-use Rattle.std.proofs.lemmas.Result.{on_ok_weaker}
-use Rattle.gf_form.proofs.lemmas.rows.ChoiceSums.{added_through, alone_met, first_summing, last_met}
-use Rattle.gf_form.proofs.lemmas.rows.ChoiceSums.{last_summing, more_summing, none_demanded}
-use Rattle.gf_form.proofs.lemmas.rows.ChoiceSums.{summed_sums}
+use Rattle.gf_form.proofs.Common.{common_steps, on_ok_weaker, actions_at, all_terms, arith, ◌∙◌}
+use Rattle.gf_form.proofs.Common.{◌∷◌, ◌≡◌}
+use Rattle.gf_form.proofs.lemmas.rows.ChoiceSums.{added_through, first_summing, none_demanded}
+use Rattle.gf_form.proofs.lemmas.rows.ChoiceSums.{last_summing, more_summing, summed_sums, last_met}
+use Rattle.gf_form.proofs.lemmas.rows.ChoiceSums.{alone_met}
 use Rattle.gf_form.proofs.lemmas.rows.Merges.{none_ordered}
 use Rattle.gf_form.proofs.lemmas.rows.PairRows.{faster_within, first_step}
 use Rattle.gf_form.proofs.rows.terms.Terms.+sums.Goals as goal

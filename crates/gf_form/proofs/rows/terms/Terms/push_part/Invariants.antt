@@ -1,5 +1,4 @@
-use Rattle.gf_form.proofs.Common.{all_terms, lowered, part, ◌+◌, ◌-◌, ◌≤◌}
-use Rattle.gf_form.specs.inner.rows.TermLists.{MayCome}
+use Rattle.gf_form.proofs.Common.{all_terms, MayCome, lowered, part, ◌+◌, ◌-◌, ◌≤◌}
 use Rattle.gf_form.proofs.lemmas.rows.Merges.{Pushing}
 use Rattle.gf_form.proofs.rows.terms.Terms.push_part.Given as goal
 

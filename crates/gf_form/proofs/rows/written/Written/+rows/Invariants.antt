@@ -1,5 +1,4 @@
-use Rattle.gf_form.proofs.Common.{◌+◌, ◌*◌, ◌-◌, ◌≡◌, ◌≤◌, length, AreWritten}
-use Rattle.gf_form.specs.inner.rows.TermLists.{AreWithin}
+use Rattle.gf_form.proofs.Common.{AreWritten, AreWithin, length, ◌*◌, ◌+◌, ◌-◌, ◌≡◌, ◌≤◌}
 use Rattle.gf_form.proofs.rows.written.Written.+rows.Given as goal
 
 abbrev pub decreases-push_rows : goal.decreases-push_rows

@@ -1,5 +1,4 @@
-use Rattle.gf_form.proofs.Common.{AreWritten}
-use Rattle.gf_form.specs.inner.rows.TermLists.{AreWithin}
+use Rattle.gf_form.proofs.Common.{AreWritten, AreWithin}
 use Rattle.gf_form.proofs.rows.written.Written.push_last.Given as goal
 
 abbrev pub invariant-loop-before : goal.invariant-loop-before

@@ -1,6 +1,5 @@
-use Rattle.gf_form.proofs.Common.{arith, ◌∷◌}
-use Rattle.std.proofs.Common.{reverse}
-use Rattle.gf_form.proofs.lemmas.values.Walks.{stops, turned}
+use Rattle.gf_form.proofs.Common.{reverse, arith, ◌∷◌}
+use Rattle.gf_form.proofs.lemmas.values.Walks.{turned, stops}
 use Rattle.gf_form.proofs.values.walk.Walk.value.Goals as goal
 
 pub leave-requires-clause-is_open : goal.leave-requires-clause-is_open

@@ -1,8 +1,6 @@
-use Rattle.gf_form.proofs.Common.{◌≡◌, ℕ, ◌+◌, AllByRecursion}
-use Rattle.std.proofs.Common.{reverse}
-use Rattle.std.specs.List.{sum_by}
-use Rattle.gf_form.specs.inner.values.ValueLeft.{IsNext, IsOpen, next_size, next_value, open_size}
-use Rattle.gf_form.specs.inner.values.ValueLeft.{tree_value, whole_value}
+use Rattle.gf_form.proofs.Common.{AllByRecursion, reverse, sum_by, ◌+◌, ◌≡◌, ℕ}
+use Rattle.gf_form.specs.inner.values.ValueLeft.{whole_value, next_value, tree_value, next_size}
+use Rattle.gf_form.specs.inner.values.ValueLeft.{open_size, IsNext, IsOpen}
 use Rattle.gf_form.proofs.values.walk.Walk.value.Given as goal
 
 abbrev pub invariant-loop-next : goal.invariant-loop-next

@@ -1,7 +1,7 @@
 use Rattle.std.proofs.Common.{Err, List, Ok, [], ◌++◌, ◌∷◌, ap, refl, ℕ}
-use Rattle.gf_run.specs.CollectionRun.{opened, unopened}
-use Rattle.gf_run.specs.declared.fault.RunFault.TheVariants.{Read}
-use Rattle.gf_run.specs.declared.fault.Which.TheVariants.{Only}
+use Rattle.gf_run.specs.Performs.{opened, unopened}
+use Rattle.gf_run.specs.declared.fault.RunFault.{RunFault}
+use Rattle.gf_run.specs.declared.fault.Which.{Which}
 use Rattle.gf_run.proofs.Reported.{told_of}
 use Rattle.gf_run.proofs.jobs.session.Session.hash_next.Goals as goal
 
@@ -10,9 +10,9 @@ returns-in-Err-clause-next g c = λ files is. (
   files,
   is,
   (
-    Err (Read Only),
+    Err (RunFault.Read Which.Only),
     unopened c.in-Err.ensures refl refl
-        (told_of _ (Read Only) _ _ _ c.name_of-name.ensures refl c.tell_unopened_of.ensures),
+        (told_of _ (RunFault.Read Which.Only) _ _ _ c.name_of-name.ensures refl c.tell_unopened_of.ensures),
   ),
 )
 

@@ -1,15 +1,15 @@
 use Rattle.std.proofs.Common.{Err, Ok, refl}
-use Rattle.gf_run.specs.CollectionRun.{opened, unopened}
-use Rattle.gf_run.specs.declared.fault.RunFault.TheVariants.{Read}
-use Rattle.gf_run.specs.declared.fault.Which.TheVariants.{Only}
+use Rattle.gf_run.specs.Performs.{opened, unopened}
+use Rattle.gf_run.specs.declared.fault.RunFault.{RunFault}
+use Rattle.gf_run.specs.declared.fault.Which.{Which}
 use Rattle.gf_run.proofs.Reported.{reported}
 use Rattle.gf_run.proofs.jobs.session.Session.perform_one.Goals as goal
 
 pub returns-in-Err-clause-performed : goal.returns-in-Err-clause-performed
 returns-in-Err-clause-performed g c = (
-  Err (Read Only),
+  Err (RunFault.Read Which.Only),
   unopened c.in-Err.ensures refl refl
-      (reported _ (Read Only) _ _ _ c.called_input-name.ensures refl c.tell_unopened.ensures),
+      (reported _ (RunFault.Read Which.Only) _ _ _ c.called_input-name.ensures refl c.tell_unopened.ensures),
 )
 
 pub returns-in-Ok-run_one-clause-performed : goal.returns-in-Ok-run_one-clause-performed

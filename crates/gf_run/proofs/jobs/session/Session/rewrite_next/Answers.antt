@@ -1,15 +1,15 @@
 use Rattle.std.proofs.Common.{Err, Ok, refl}
-use Rattle.gf_run.specs.CollectionRun.{opened, unopened}
-use Rattle.gf_run.specs.declared.fault.RunFault.TheVariants.{Read}
-use Rattle.gf_run.specs.declared.fault.Which.TheVariants.{Only}
+use Rattle.gf_run.specs.Performs.{opened, unopened}
+use Rattle.gf_run.specs.declared.fault.RunFault.{RunFault}
+use Rattle.gf_run.specs.declared.fault.Which.{Which}
 use Rattle.gf_run.proofs.Reported.{told_of}
 use Rattle.gf_run.proofs.jobs.session.Session.rewrite_next.Goals as goal
 
 pub returns-in-Err-clause-next : goal.returns-in-Err-clause-next
 returns-in-Err-clause-next g c = (
-  Err (Read Only),
+  Err (RunFault.Read Which.Only),
   unopened c.in-Err.ensures refl refl
-      (told_of _ (Read Only) _ _ _ c.name_of-name.ensures refl c.tell_unopened_of.ensures),
+      (told_of _ (RunFault.Read Which.Only) _ _ _ c.name_of-name.ensures refl c.tell_unopened_of.ensures),
 )
 
 pub returns-in-Ok-rewrite-clause-next : goal.returns-in-Ok-rewrite-clause-next

@@ -13,13 +13,10 @@ pub loop-file-preserved : goal.loop-file-preserved
 loop-file-preserved g c =
     let now = c.loop-file.invariant in
     let next = c.in-Ok.ensures.next now.so_far.0 now.so_far.1 in record {
-      same = (
-        c.hash_next.ensures.same.0 ∙ c.loop-file.invariant.same.0,
-        c.hash_next.ensures.same.1 ∙ c.loop-file.invariant.same.1,
-        c.hash_next.ensures.same.2 ∙ c.loop-file.invariant.same.2,
-        c.hash_next.ensures.same.3 ∙ c.loop-file.invariant.same.3,
-        c.hash_next.ensures.same.4 ∙ c.loop-file.invariant.same.4,
-      );
+      same =
+          let h = c.hash_next.ensures.same in
+          let k = c.loop-file.invariant.same in
+          (h.0 ∙ k.0, h.1 ∙ k.1, h.2 ∙ k.2, h.3 ∙ k.3, h.4 ∙ k.4);
       unwritten = c.hash_next.ensures.unwritten ∙ now.unwritten;
       so_far = (
         next.0,

@@ -1,8 +1,8 @@
 use Rattle.std.proofs.Common.{[], List}
 use Rattle.std.specs.Prelude.{◌≡◌}
-use Rattle.gf_run.specs.CollectionRun.{HashesNext, IsOutOfMemory, WritesGroups, reading}
+use Rattle.gf_run.specs.Performs.{HashesNext, IsOutOfMemory, IsSame, WritesGroups, reading}
+use Rattle.gf_run.specs.Performs.{world_of}
 use Rattle.gf_run.specs.Duplicates.{HashedFile, IsKeptOf}
-use Rattle.gf_run.specs.Session.{IsSame, world_of}
 use Rattle.gf_run.proofs.Going.{IsOn}
 use Rattle.gf_run.proofs.jobs.session.Session.run_duplicates.Given as goal
 

@@ -4,13 +4,10 @@ use Rattle.gf_run.proofs.jobs.session.Session.run_lines.Goals as goal
 
 pub loop-file-preserved : goal.loop-file-preserved
 loop-file-preserved g c = record {
-  same = (
-    c.write_next.ensures.same.0 ∙ c.loop-file.invariant.same.0,
-    c.write_next.ensures.same.1 ∙ c.loop-file.invariant.same.1,
-    c.write_next.ensures.same.2 ∙ c.loop-file.invariant.same.2,
-    c.write_next.ensures.same.3 ∙ c.loop-file.invariant.same.3,
-    c.write_next.ensures.same.4 ∙ c.loop-file.invariant.same.4,
-  );
+  same =
+      let h = c.write_next.ensures.same in
+      let k = c.loop-file.invariant.same in
+      (h.0 ∙ k.0, h.1 ∙ k.1, h.2 ∙ k.2, h.3 ∙ k.3, h.4 ∙ k.4);
   so_far = goes_on _ _ _ _ _ _ _ _ c.loop-file.invariant.so_far _ c.loop-file-test.true
       c.file-item.is _ _ _ (rw c.loop-file.invariant.same.4 at c.in-Ok.ensures.next)
       c.max-worst.ensures;

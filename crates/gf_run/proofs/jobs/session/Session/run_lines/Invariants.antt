@@ -1,5 +1,4 @@
-use Rattle.gf_run.specs.CollectionRun.{IsCutOff, Stays, WritesNext}
-use Rattle.gf_run.specs.Session.{IsSame, world_of}
+use Rattle.gf_run.specs.Performs.{IsCutOff, IsSame, Stays, WritesNext, world_of}
 use Rattle.gf_run.proofs.Going.{IsOn}
 use Rattle.gf_run.proofs.jobs.session.Session.run_lines.Given as goal
 

@@ -1,5 +1,4 @@
-use Rattle.gf_run.specs.CollectionRun.{RewritesNext, Stays}
-use Rattle.gf_run.specs.Session.{IsSame, world_of}
+use Rattle.gf_run.specs.Performs.{IsSame, RewritesNext, Stays, world_of}
 use Rattle.gf_run.proofs.Going.{IsOn}
 use Rattle.gf_run.proofs.jobs.session.Session.run_rewrites.Given as goal
 

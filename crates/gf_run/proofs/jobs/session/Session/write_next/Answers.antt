@@ -1,17 +1,17 @@
 use Rattle.std.proofs.Common.{Err, Ok, refl, rules}
 use Rattle.std.specs.Prelude.{◌≡◌, ◌≢◌}
-use Rattle.gf_run.specs.CollectionRun.{opened, unopened}
-use Rattle.gf_run.specs.declared.fault.RunFault.TheVariants.{Read, Write}
-use Rattle.gf_run.specs.declared.fault.Which.TheVariants.{Only}
+use Rattle.gf_run.specs.Performs.{opened, unopened}
+use Rattle.gf_run.specs.declared.fault.RunFault.{RunFault}
+use Rattle.gf_run.specs.declared.fault.Which.{Which}
 use Rattle.gf_run.proofs.Reported.{reported, told_of}
 use Rattle.gf_run.proofs.jobs.session.Session.write_next.Goals as goal
 
 pub returns-in-Err-clause-next : goal.returns-in-Err-clause-next
 returns-in-Err-clause-next g c = (
-  Err (Read Only),
+  Err (RunFault.Read Which.Only),
   λ same. absurd cc,
   unopened c.in-Err.ensures refl refl
-      (told_of _ (Read Only) _ _ _ c.name_of-name.ensures refl c.tell_unopened_of.ensures),
+      (told_of _ (RunFault.Read Which.Only) _ _ _ c.name_of-name.ensures refl c.tell_unopened_of.ensures),
 )
 
 pub returns-in-Ok-run_line-clause-next : goal.returns-in-Ok-run_line-clause-next
@@ -24,17 +24,17 @@ returns-in-Ok-run_line-clause-next g c = (
 
 pub returns-then-eq-clause-next : goal.returns-then-eq-clause-next
 returns-then-eq-clause-next g c =
-    let same : c.in-Err-run_line.fault ≡ Write = search rules in
+    let same : c.in-Err-run_line.fault ≡ RunFault.Write = search rules in
     opened _ _ _ c.in-Ok.ensures.0 c.in-Ok.ensures.1
     (refl, rw (c.name_of-name.ensures, same) at c.in-Err-run_line.ensures)
-    (reported _ Write _ _ _ c.name_of-name.ensures c.bytes-kept.ensures
+    (reported _ RunFault.Write _ _ _ c.name_of-name.ensures c.bytes-kept.ensures
     (rw same at c.tell_of_file.ensures))
 
 pub returns-clause-next : goal.returns-clause-next
 returns-clause-next g c =
-    let other : c.in-Err-run_line.fault ≢ Write = search rules in (
+    let other : c.in-Err-run_line.fault ≢ RunFault.Write = search rules in (
       Err c.in-Err-run_line.fault,
-      λ same. let is : c.in-Err-run_line.fault ≡ Write = cc in absurd (other is),
+      λ same. let is : c.in-Err-run_line.fault ≡ RunFault.Write = cc in absurd (other is),
       opened _ _ _ c.in-Ok.ensures.0 c.in-Ok.ensures.1
           (refl, rw c.name_of-name.ensures at c.in-Err-run_line.ensures)
           (told_of _ _ _ _ _ c.name_of-name.ensures c.bytes-kept.ensures c.tell_of.ensures),
