@@ -4,12 +4,13 @@ use Rattle.std.proofs.Common.{◌≡◌, ℕ, zero, suc, ◌+◌, ◌-◌, ◌*�
 use Rattle.std.proofs.Common.{◌<◌, ◌≤◌, min, arith, ap, sym, ◌∙◌, subst, inl, inr}
 use Rattle.std.specs.Prelude.{◌⊎◌}
 use Rattle.std.proofs.lemmas.Bool.{cases_lt}
-use Rattle.std.specs.Int.{IsGcd, ◌∣◌, abs_diff, trailing_zeros, bit_at, w64}
-use Rattle.std.proofs.lemmas.Nat.{pow-add, pow_pos, mod-pow-add, shr_split}
+use Rattle.std.specs.Int.{IsGcd, ◌∣◌, abs_diff, trailing_zeros, bit_at, w64, w128}
+use Rattle.std.proofs.lemmas.Nat.{pow-add, pow_pos, mod-pow-add, shr_high, shr_split}
 use Rattle.std.proofs.lemmas.Nat.Bits.{bit_at-trailing_zeros}
 use Rattle.std.proofs.lemmas.Nat.Gcd.{dvd_refl, dvd_trans, le_of_dvd}
 use Rattle.std.proofs.lemmas.Nat.Gcd.{IsGcd-from_mod, IsGcd-from_sub, IsGcd-swap}
-use Rattle.std.proofs.Math.Nat.{dvd-mul_right, mod-eq_of_lt, pow-succ', pow-zero}
+use Rattle.std.proofs.Math.Nat.{dvd-mul_right, mod-eq_of_lt, mod-lt, pow-succ', pow-zero}
+use Rattle.std.proofs.Math.Pow.{mod-mod-pow}
 use Rattle.gf_fraction.proofs.Divisors.{IsGcd-one_right, IsGcd-mul, coprime-mul}
 use Rattle.gf_fraction.proofs.Divisors.{coprime_parts, dvd_of_dvd-mul}
 
@@ -40,14 +41,40 @@ pub record IsOddPart (n t m : ℕ) : Type 0 where
   pub odd : m % 2 ≡ 1
   pub parts : m * 2 ^ t ≡ n
 
+by_lowest : (n t : ℕ) → bit_at n t ≡ 1 → ((i : ℕ) → i < t → bit_at n i ≡ 0)
+    → IsOddPart n t (n / 2 ^ t)
+by_lowest n t one zeros =
+    record { odd = one; parts = omega (arith, shr_split n t, low_bits n t zeros) }
+
 pub odd_part : (n t : ℕ) → 0 < n → n < 2 ^ 64 → t ≡ trailing_zeros w64 n → IsOddPart n t (n / 2 ^ t)
 odd_part n t some fits is =
     let z = bit_at-trailing_zeros w64 n some fits in
-    let low : n % 2 ^ t ≡ 0 = low_bits n t (λ i b. z.2 i (omega (arith, b, is))) in
-    record {
-      odd = subst (λ x. bit_at n x ≡ 1) (sym is) z.1;
-      parts = omega (arith, shr_split n t, low);
-    }
+    subst (λ k. IsOddPart n k (n / 2 ^ k)) (sym is) (by_lowest n _ z.1 z.2)
+
+pub wide_odd_part : (n t : ℕ) → 0 < n → n < 2 ^ 128 → t ≡ trailing_zeros w128 n
+    → IsOddPart n t (n / 2 ^ t)
+wide_odd_part n t some fits is =
+    let z = bit_at-trailing_zeros w128 n some fits in
+    subst (λ k. IsOddPart n k (n / 2 ^ k)) (sym is) (by_lowest n _ z.1 z.2)
+
+-- a digit among the lowest 64
+low_bit : (n i : ℕ) → i < 64 → bit_at (n % 2 ^ 64) i ≡ bit_at n i
+low_bit n i less =
+    let j = 63 - i in
+    let few : n % 2 ^ (j + 1 + i) / 2 ^ i ≡ n / 2 ^ i % 2 ^ (j + 1) =
+    ap (λ x. x / 2 ^ i) (mod-pow-add n (j + 1) i)
+    ∙ shr_high (n / 2 ^ i % 2 ^ (j + 1)) i (n % 2 ^ i) (mod-lt n (pow_pos i)) in
+    let whole : 64 ≡ j + 1 + i = omega (arith, less) in
+    ap (λ k. n % 2 ^ k / 2 ^ i % 2 ^ 1) whole
+    ∙ ap (λ x. x % 2 ^ 1) few ∙ mod-mod-pow (n / 2 ^ i) j 1
+
+pub by_low_word : (n t : ℕ) → 0 < n % 2 ^ 64 → t ≡ trailing_zeros w64 (n % 2 ^ 64)
+    → IsOddPart n t (n / 2 ^ t)
+by_low_word n t some is =
+    let z = bit_at-trailing_zeros w64 (n % 2 ^ 64) some (mod-lt n (pow_pos 64)) in
+    subst (λ k. IsOddPart n k (n / 2 ^ k)) (sym is)
+    (by_lowest n _ (sym (low_bit n _ z.0) ∙ z.1)
+    (λ i b. sym (low_bit n i (omega (arith, b, z.0))) ∙ z.2 i b))
 
 -- a factor that has no common divisor with one of two numbers changes nothing in the other
 IsGcd-factor : (m n k g : ℕ) → IsGcd m k 1 → IsGcd m n g → IsGcd m (n * k) g
@@ -86,6 +113,19 @@ odd_step x y t m least g odd_x odd_y part least_is is = by_order (cases_lt x y)
 
 pub least_odd : (x y least : ℕ) → x % 2 ≡ 1 → y % 2 ≡ 1 → least ≡ min x y → least % 2 ≡ 1
 least_odd x y least odd_x odd_y is = grind arith
+
+-- odd numbers, whose greatest common divisor is that of two others
+abbrev pub LeadTo : ℕ → ℕ → ℕ → ℕ → Type 0
+LeadTo a b x y = (x % 2 ≡ 1) × (y % 2 ≡ 1) × ((g : ℕ) → IsGcd x y g → IsGcd a b g)
+
+-- a step leads from them to less
+pub led_on : (a b x y apart t m least : ℕ) → LeadTo a b x y → IsOddPart apart t m
+    → apart ≡ abs_diff x y → least ≡ min x y → LeadTo a b least m
+led_on a b x y apart t m least h part is least_is = (
+  least_odd x y least h.0 h.1 least_is,
+  part.odd,
+  λ g common. h.2 g (odd_step x y t m least g h.0 h.1 (part.parts ∙ is) least_is common),
+)
 
 -- odd parts with the twos that both have
 with_twos : (x y s k g : ℕ) → x % 2 ≡ 1 → IsGcd x y g
@@ -129,8 +169,7 @@ from_odd_parts a b s t x y g k ha hb is least =
     subst (λ j. IsGcd a b (g * 2 ^ j)) (sym least) (common_twos a b s t x y g ha hb is)
 
 -- a common divisor does not wrap
-pub no_wrap : (a b g : ℕ) → 0 < a → a < 2 ^ 64 → IsGcd a b g → IsGcd a b (g % 2 ^ 64)
-no_wrap a b g some fits is =
+pub no_wrap : (w a b g : ℕ) → 0 < a → a < 2 ^ w → IsGcd a b g → IsGcd a b (g % 2 ^ w)
+no_wrap w a b g some fits is =
     let within : g ≤ a = le_of_dvd some is.0 in
-    subst (IsGcd a b) (sym (mod-eq_of_lt (let h : g < 2 ^ 64 = omega (arith, within, fits) in h)))
-    is
+    subst (IsGcd a b) (sym (mod-eq_of_lt (let h : g < 2 ^ w = omega (arith, within, fits) in h))) is

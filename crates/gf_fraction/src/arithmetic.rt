@@ -1,6 +1,6 @@
 //! The steps of exact arithmetic on numbers of 128 bits.
 
-ghost use Rattle.std.specs.Prelude.{◌≡◌, ℤ, pos, ◌+◌, ◌*◌, ◌/◌, ◌%◌, ◌^◌, ◌<◌};
+ghost use Rattle.std.specs.Prelude.{◌≡◌, ℕ, ℤ, pos, ◌+◌, ◌*◌, ◌/◌, ◌%◌, ◌^◌, ◌<◌};
 ghost use Rattle.std.specs.Prelude.{◌≤◌, ◌+ℤ◌, ◌*ℤ◌, unsigned_abs, MatchResult};
 ghost use Rattle.std.specs.Int.{IsGcd};
 ghost use Rattle.gf_fraction.specs.Ratio.{IsWithin, signed};
@@ -49,29 +49,62 @@ pub fn word_gcd(a: u64, b: u64) -> u64
     odd_gcd(a >> a_twos, b >> b_twos) << a_twos.min(b_twos)
 }
 
-/// The remainder of a step of Euclid's algorithm. Most quotients there are 1 or 2, and differences
-/// take far less time than a division.
-fn remainder(n: u128, by: u128) -> u128
-    requires { 0 < by }
-    ensures { result ≡ n % by }
+/// A number above 0 without its twos. Most have few, which are among the lowest 64 bits.
+#[inline(always)]
+fn odd_part(n: u128) -> u128
+    requires { 0 < n }
+    ensures odd { result % 2 ≡ 1 }
+    ensures parts { (twos : ℕ) × (result * 2 ^ twos ≡ n) }
 {
-    if n < by {
-        return n;
+    let low = (n % (WORD + 1)) as u64;
+    if low == 0 {
+        n >> n.trailing_zeros()
+    } else {
+        n >> low.trailing_zeros()
     }
-    let once = n - by;
-    if once < by {
-        return once;
-    }
-    let twice = once - by;
-    if twice < by { twice } else { n % by }
 }
 
-/// The greatest common divisor. Steps use 64 bits as soon as both numbers fit.
+/// The greatest common divisor of two odd numbers of 128 bits. Steps use 64 bits as soon as both
+/// numbers fit.
+fn wide_odd_gcd(a: u128, b: u128) -> u128
+    requires odd_a { a % 2 ≡ 1 }
+    requires odd_b { b % 2 ≡ 1 }
+    ensures { IsGcd a b result }
+{
+    let mut x = a;
+    let mut y = b;
+    while x > WORD || y > WORD {
+        let apart = x.abs_diff(y);
+        if apart == 0 {
+            return x;
+        }
+        x = x.min(y);
+        y = odd_part(apart);
+    }
+    u128::from(odd_gcd(x as u64, y as u64))
+}
+
+/// The greatest common divisor of two numbers above 0, in the same way.
+fn wide_gcd(a: u128, b: u128) -> u128
+    requires some_a { 0 < a }
+    requires some_b { 0 < b }
+    ensures { IsGcd a b result }
+{
+    let a_twos = a.trailing_zeros();
+    let b_twos = b.trailing_zeros();
+    wide_odd_gcd(a >> a_twos, b >> b_twos) << a_twos.min(b_twos)
+}
+
+/// The greatest common divisor. If only one of the numbers is above 64 bits, a division comes
+/// first.
 pub fn gcd(a: u128, b: u128) -> u128
     ensures { IsGcd a b result }
 {
     if a == 1 || b == 1 {
         return 1;
+    }
+    if a > WORD && b > WORD {
+        return wide_gcd(a, b);
     }
     let mut x = a;
     let mut y = b;
@@ -79,7 +112,7 @@ pub fn gcd(a: u128, b: u128) -> u128
         if y == 0 {
             return x;
         }
-        let rest = remainder(x, y);
+        let rest = x % y;
         x = y;
         y = rest;
     }
@@ -87,18 +120,19 @@ pub fn gcd(a: u128, b: u128) -> u128
 }
 
 /// The quotient, by a division of 64 bits if both numbers fit, and without a division if the
-/// divisor is 1.
+/// divisor is a power of two.
 pub fn quotient(n: u128, by: u128) -> u128
     requires { 0 < by }
     ensures { result ≡ n / by }
 {
-    if by == 1 {
-        n
-    } else if n <= WORD && by <= WORD {
-        u128::from(n as u64 / by as u64)
-    } else {
-        n / by
+    if n <= WORD && by <= WORD {
+        return u128::from(n as u64 / by as u64);
     }
+    let twos = by.trailing_zeros();
+    if by >> twos == 1 {
+        return n >> twos;
+    }
+    n / by
 }
 
 /// A size with its sign.

@@ -161,6 +161,7 @@ pub fn lowest_words(size: u64, den: u64, common: u64) -> (u64, u64)
 
 /// A numerator's size and a denominator in lowest terms. Common factors are looked for only in
 /// `common`.
+#[inline(never)]
 pub fn lowest(size: u128, den: u128, common: u128) -> (u128, u128)
     requires { HoldsCommon size den common }
     ensures { IsLowest size den result.0 result.1 }

@@ -1,10 +1,9 @@
-use Rattle.std.proofs.Common.{◌≡◌, ◌+◌, ◌%◌, ℕ}
-use Rattle.std.specs.Int.{IsGcd}
+use Rattle.std.proofs.Common.{◌+◌}
+use Rattle.gf_fraction.proofs.OddParts.{LeadTo}
 use Rattle.gf_fraction.proofs.arithmetic.odd_gcd.Given as goal
 
 abbrev pub invariant-loop-x : goal.invariant-loop-x
-invariant-loop-x l =
-    (l.x % 2 ≡ 1) × (l.y % 2 ≡ 1) × ((g : ℕ) → IsGcd l.x l.y g → IsGcd l.fn.a l.fn.b g)
+invariant-loop-x l = LeadTo l.fn.a l.fn.b l.x l.y
 
 abbrev pub decreases-loop-x : goal.decreases-loop-x
 decreases-loop-x l = l.x + l.y

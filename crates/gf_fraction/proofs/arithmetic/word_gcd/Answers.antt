@@ -10,7 +10,7 @@ odd_gcd-requires-clause-odd_b c = (odd_part c.args.b _ (omega arith) (omega arit
 
 pub returns : goal.returns
 returns c =
-    no_wrap c.args.a c.args.b _ (omega arith) (omega arith)
+    no_wrap 64 c.args.a c.args.b _ (omega arith) (omega arith)
     (from_odd_parts c.args.a c.args.b _ _ _ _ c.odd_gcd.result c.min.result
     (odd_part c.args.a _ (omega arith) (omega arith) refl)
     (odd_part c.args.b _ (omega arith) (omega arith) refl)
