@@ -1,6 +1,6 @@
 -- A reader or a writer that is asked turn by turn.
 use Rattle.std.proofs.Common.{◌≡◌, ℕ, ◌+◌, ◌-◌, ◌<◌, ◌≤◌, List, [], ◌++◌, length, take, drop, add-one}
-use Rattle.std.proofs.Common.{append_assoc, append-nil, arith, length-append, length-drop, refl}
+use Rattle.std.proofs.Common.{append_assoc, arith, length-append, length-drop, refl}
 use Rattle.std.proofs.Common.{take-append-drop, ◌∙◌}
 use Rattle.std.proofs.KnownBytes.{Appends-nil, Appends-trans, Keeps-refl, Keeps-trans}
 use Rattle.std.proofs.lemmas.List.{take_all}

@@ -1,6 +1,6 @@
 //! A reader that keeps the bytes that pass, so that a fault in them can be explained.
 
-ghost use Rattle.std.specs.Prelude.{◌≡◌, ◌≤◌, Ok, length, option_map, refl};
+ghost use Rattle.std.specs.Prelude.{◌≡◌, ◌≤◌, Ok, length, option_map};
 ghost use Rattle.gf_run.specs.Wrapped.{Keeps, bytes_kept, kept_at_first, kept_reader, source_of};
 
 use crate::streams::last_error::LastError;

@@ -1,4 +1,4 @@
-use Rattle.std.proofs.Common.{append-nil, Option, Some, None, Ok, Err, inl, inr, ap, arith, subst}
+use Rattle.std.proofs.Common.{append-nil, Option, Some, None, Ok, Err, inl, ap, arith, subst}
 use Rattle.std.proofs.Common.{sym, ◌≡◌, ◌∙◌, ℕ, List, [], ◌++◌, take, zero, suc, append_assoc}
 use Rattle.std.specs.Prelude.{◌⊎◌}
 use Rattle.std.specs.declared.io.Error.{Error}
@@ -16,26 +16,21 @@ IsMore (Some kept) bytes after = (after ≡ Some (kept ++ bytes)) ⊎ (after ≡
 -- after an error, what was kept stays
 after_error : (before after : Option (List ℕ)) (buffer : List ℕ) (error : Error)
     → Keeps before buffer (Err error) after → after ≡ before
-after_error None after buffer error h = h
-after_error (Some kept) after buffer error h = h
+after_error before after buffer error h = grind arith
 
 after_bytes : (before after : Option (List ℕ)) (buffer : List ℕ) (n : ℕ)
     → Keeps before buffer (Ok n) after → IsMore before (take n buffer) after
-after_bytes None after buffer n h = h
-after_bytes (Some kept) after buffer n h = h
+after_bytes before after buffer n h = grind arith
 
 -- after bytes, and then more of them
 IsMore-trans : (before mid after : Option (List ℕ)) (front back : List ℕ) → IsMore before front mid
     → IsMore mid back after → IsMore before (front ++ back) after
-IsMore-trans None mid after front back h k = grind arith
-IsMore-trans (Some kept) mid after front back (inl h) k = grind (arith, append_assoc)
-IsMore-trans (Some kept) mid after front back (inr h) k = grind arith
+IsMore-trans before mid after front back h k = grind (arith, append_assoc)
 
 -- at the end nothing more comes
 all : (bytes : List ℕ) (mid after : Option (List ℕ)) → IsMore (Some []) bytes mid
     → IsMore mid [] after → (after ≡ Some bytes) ⊎ (after ≡ None)
-all bytes mid after (inl h) k = grind (arith, append-nil)
-all bytes mid after (inr h) k = grind arith
+all bytes mid after h k = grind (arith, append-nil)
 
 module _ {S : Type 0} (reader : Stream S) where
   after_interruptions : (P : List ℕ → Type 0) (n : ℕ) (old new : Kept S)

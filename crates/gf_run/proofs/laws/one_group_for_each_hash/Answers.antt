@@ -1,4 +1,4 @@
-use Rattle.std.proofs.Common.{◌≡◌, ◌↔◌, ◌∙◌, ℕ, List, map, refl, sym, subst}
+use Rattle.std.proofs.Common.{◌≡◌, ◌↔◌, ◌∙◌, ℕ, List, map, refl, sym}
 use Rattle.std.specs.List.{Contains}
 use Rattle.gf_tree.proofs.Offered.{contains, has, has_map, in_filter, is_used, mapped_from}
 use Rattle.gf_tree.proofs.Offered.{of_filter}
@@ -25,10 +25,7 @@ alike : (files : List HashedFile) (a b : HashedFile) → AreInOneGroup files a b
 alike files a b one =
     let from = mapped_from (having files) (hashes_of files) one.group
     (has (groups_of files) one.group one.is_group) in
-    sym (hash_in files from.0 a
-    (subst (λ (group : List HashedFile). Contains group a) (sym from.2) one.first))
-    ∙ hash_in files from.0 b
-    (subst (λ (group : List HashedFile). Contains group b) (sym from.2) one.second)
+    sym (hash_in files from.0 a (rw from.2 one.first)) ∙ hash_in files from.0 b (rw from.2 one.second)
 
 together : (files : List HashedFile) (a b : HashedFile) → Contains files a → Contains files b
     → a.hash ≡ b.hash → AreInOneGroup files a b

@@ -11,10 +11,7 @@ loop-group-preserved c =
     ∙ ap (λ l. map (λ group. map (λ name. name.now) group.items) l)
     (sym c.deref-group-items.ensures.value) in
     let size = length-map c.group-item.result.items (λ name. name.now) in
-    added c.args.end c.args.self.now.names (λ group. map (λ name. name.now) group.items)
-    c.deref-group-items.result.now are c.loop-group.group-index c.group-item.result
-    c.loop-group-test.true c.group-item.is c.loop-group.text.items c.loop-group.apart
-    c.loop-group.invariant
+    added _ _ _ _ are _ _ c.loop-group-test.true c.group-item.is _ _ c.loop-group.invariant
     (omega (arith, c.if-len-lt2.false, c.len.ensures, size, c.group-item.result.ok.0)) _
     (rw c.as_slice.ensures.value at c.in_ok-push_group.ensures)
 
@@ -24,10 +21,7 @@ loop-group-preserved-then-len-lt2 c =
     ∙ ap (λ l. map (λ group. map (λ name. name.now) group.items) l)
     (sym c.deref-group-items.ensures.value) in
     let size = length-map c.group-item.result.items (λ name. name.now) in
-    passed c.args.end c.args.self.now.names (λ group. map (λ name. name.now) group.items)
-    c.deref-group-items.result.now are c.loop-group.group-index c.group-item.result
-    c.loop-group-test.true c.group-item.is c.loop-group.text.items c.loop-group.apart
-    c.loop-group.invariant
+    passed _ _ _ _ are _ _ c.loop-group-test.true c.group-item.is _ _ c.loop-group.invariant
     (omega (arith, c.if-len-lt2.true, c.len.ensures, size, c.group-item.result.ok.0))
 
 pub returns : goal.returns
@@ -35,8 +29,7 @@ returns c = λ files is.
     let are = ap (λ (kept : KeptNames). kept.names) (sym c.self.view_is)
     ∙ ap (λ l. map (λ group. map (λ name. name.now) group.items) l)
     (sym c.deref-group-items.ensures.value) in
-    let done = at_end c.args.end c.args.self.now.names c.loop-group.group-index
-    c.loop-group.text.items c.loop-group.apart c.loop-group.invariant (omega (
+    let done = at_end _ _ _ _ _ c.loop-group.invariant (omega (
       arith,
       c.loop-group-test.false,
       ap (λ (l : List (List (List ℕ))). length l) are,

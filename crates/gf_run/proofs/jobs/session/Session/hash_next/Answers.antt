@@ -1,8 +1,5 @@
 use Rattle.std.proofs.Common.{Err, List, Ok, [], ◌++◌, ◌∷◌, ap, refl, ℕ}
 use Rattle.gf_run.specs.Performs.{opened, unopened}
-use Rattle.gf_run.specs.declared.fault.RunFault.{RunFault}
-use Rattle.gf_run.specs.declared.fault.Which.{Which}
-use Rattle.gf_run.proofs.Reported.{told_of}
 use Rattle.gf_run.proofs.jobs.session.Session.hash_next.Goals as goal
 
 pub returns-in-Err-clause-next : goal.returns-in-Err-clause-next
@@ -10,9 +7,8 @@ returns-in-Err-clause-next g c = λ files is. (
   files,
   is,
   (
-    Err (RunFault.Read Which.Only),
-    unopened c.in-Err.ensures refl refl
-        (told_of _ (RunFault.Read Which.Only) _ _ _ c.name_of-name.ensures refl c.tell_unopened_of.ensures),
+    _,
+    unopened c.in-Err.ensures refl refl (rw c.name_of-name.ensures at c.tell_unopened_of.ensures),
   ),
 )
 
@@ -49,6 +45,6 @@ returns-clause-next g c = λ files is. (
   (
     Err c.in-Err-read_hash.fault,
     opened _ _ _ c.in-Ok.ensures.0 c.in-Ok.ensures.1 (refl, refl, c.in-Err-read_hash.ensures)
-        (told_of _ _ _ _ _ c.name_of-name.ensures c.bytes.ensures c.tell_of.ensures),
+        (rw (c.name_of-name.ensures, c.bytes.ensures) at c.tell_of.ensures),
   ),
 )

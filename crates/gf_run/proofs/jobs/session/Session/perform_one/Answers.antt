@@ -1,15 +1,11 @@
 use Rattle.std.proofs.Common.{Err, Ok, refl}
 use Rattle.gf_run.specs.Performs.{opened, unopened}
-use Rattle.gf_run.specs.declared.fault.RunFault.{RunFault}
-use Rattle.gf_run.specs.declared.fault.Which.{Which}
-use Rattle.gf_run.proofs.Reported.{reported}
 use Rattle.gf_run.proofs.jobs.session.Session.perform_one.Goals as goal
 
 pub returns-in-Err-clause-performed : goal.returns-in-Err-clause-performed
 returns-in-Err-clause-performed g c = (
-  Err (RunFault.Read Which.Only),
-  unopened c.in-Err.ensures refl refl
-      (reported _ (RunFault.Read Which.Only) _ _ _ c.called_input-name.ensures refl c.tell_unopened.ensures),
+  _,
+  unopened c.in-Err.ensures refl refl (rw c.called_input-name.ensures at c.tell_unopened.ensures),
 )
 
 pub returns-in-Ok-run_one-clause-performed : goal.returns-in-Ok-run_one-clause-performed
@@ -22,5 +18,5 @@ pub returns-clause-performed : goal.returns-clause-performed
 returns-clause-performed g c = (
   Err c.in-Err-run_one.fault,
   opened _ _ _ c.in-Ok.ensures.0 c.in-Ok.ensures.1 (refl, c.in-Err-run_one.ensures)
-      (reported _ _ _ _ _ c.called_input-name.ensures c.bytes.ensures c.tell_of_file.ensures),
+      (rw (c.called_input-name.ensures, c.bytes.ensures) at c.tell_of_file.ensures),
 )

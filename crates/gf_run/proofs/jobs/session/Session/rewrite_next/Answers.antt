@@ -1,15 +1,11 @@
 use Rattle.std.proofs.Common.{Err, Ok, refl}
 use Rattle.gf_run.specs.Performs.{opened, unopened}
-use Rattle.gf_run.specs.declared.fault.RunFault.{RunFault}
-use Rattle.gf_run.specs.declared.fault.Which.{Which}
-use Rattle.gf_run.proofs.Reported.{told_of}
 use Rattle.gf_run.proofs.jobs.session.Session.rewrite_next.Goals as goal
 
 pub returns-in-Err-clause-next : goal.returns-in-Err-clause-next
 returns-in-Err-clause-next g c = (
-  Err (RunFault.Read Which.Only),
-  unopened c.in-Err.ensures refl refl
-      (told_of _ (RunFault.Read Which.Only) _ _ _ c.name_of-name.ensures refl c.tell_unopened_of.ensures),
+  _,
+  unopened c.in-Err.ensures refl refl (rw c.name_of-name.ensures at c.tell_unopened_of.ensures),
 )
 
 pub returns-in-Ok-rewrite-clause-next : goal.returns-in-Ok-rewrite-clause-next
@@ -22,5 +18,5 @@ pub returns-clause-next : goal.returns-clause-next
 returns-clause-next g c = (
   Err c.in-Err-rewrite.field-0.fault,
   opened _ _ _ c.in-Ok.ensures.0 c.in-Ok.ensures.1 (refl, c.in-Err-rewrite.ensures)
-      (told_of _ _ _ _ _ c.name_of-name.ensures c.bytes.ensures c.tell_of.ensures),
+      (rw (c.name_of-name.ensures, c.bytes.ensures) at c.tell_of.ensures),
 )

@@ -1,13 +1,10 @@
-use Rattle.std.proofs.Common.{◌∙◌, arith, refl}
+use Rattle.std.proofs.Common.{arith, refl, rules}
 use Rattle.gf_run.proofs.Going.{closes, goes_on, stops}
 use Rattle.gf_run.proofs.jobs.session.Session.run_lines.Goals as goal
 
 pub loop-file-preserved : goal.loop-file-preserved
 loop-file-preserved g c = record {
-  same =
-      let h = c.write_next.ensures.same in
-      let k = c.loop-file.invariant.same in
-      (h.0 ∙ k.0, h.1 ∙ k.1, h.2 ∙ k.2, h.3 ∙ k.3, h.4 ∙ k.4);
+  same = search rules;
   so_far = goes_on _ _ _ _ _ _ _ _ c.loop-file.invariant.so_far _ c.loop-file-test.true
       c.file-item.is _ _ _ (rw c.loop-file.invariant.same.4 at c.in-Ok.ensures.next)
       c.max-worst.ensures;

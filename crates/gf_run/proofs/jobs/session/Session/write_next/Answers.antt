@@ -2,16 +2,13 @@ use Rattle.std.proofs.Common.{Err, Ok, refl, rules}
 use Rattle.std.specs.Prelude.{◌≡◌, ◌≢◌}
 use Rattle.gf_run.specs.Performs.{opened, unopened}
 use Rattle.gf_run.specs.declared.fault.RunFault.{RunFault}
-use Rattle.gf_run.specs.declared.fault.Which.{Which}
-use Rattle.gf_run.proofs.Reported.{reported, told_of}
 use Rattle.gf_run.proofs.jobs.session.Session.write_next.Goals as goal
 
 pub returns-in-Err-clause-next : goal.returns-in-Err-clause-next
 returns-in-Err-clause-next g c = (
-  Err (RunFault.Read Which.Only),
+  _,
   λ same. absurd cc,
-  unopened c.in-Err.ensures refl refl
-      (told_of _ (RunFault.Read Which.Only) _ _ _ c.name_of-name.ensures refl c.tell_unopened_of.ensures),
+  unopened c.in-Err.ensures refl refl (rw c.name_of-name.ensures at c.tell_unopened_of.ensures),
 )
 
 pub returns-in-Ok-run_line-clause-next : goal.returns-in-Ok-run_line-clause-next
@@ -27,8 +24,7 @@ returns-then-eq-clause-next g c =
     let same : c.in-Err-run_line.fault ≡ RunFault.Write = search rules in
     opened _ _ _ c.in-Ok.ensures.0 c.in-Ok.ensures.1
     (refl, rw (c.name_of-name.ensures, same) at c.in-Err-run_line.ensures)
-    (reported _ RunFault.Write _ _ _ c.name_of-name.ensures c.bytes-kept.ensures
-    (rw same at c.tell_of_file.ensures))
+    (rw (c.name_of-name.ensures, c.bytes-kept.ensures, same) at c.tell_of_file.ensures)
 
 pub returns-clause-next : goal.returns-clause-next
 returns-clause-next g c =
@@ -37,5 +33,5 @@ returns-clause-next g c =
       λ same. let is : c.in-Err-run_line.fault ≡ RunFault.Write = cc in absurd (other is),
       opened _ _ _ c.in-Ok.ensures.0 c.in-Ok.ensures.1
           (refl, rw c.name_of-name.ensures at c.in-Err-run_line.ensures)
-          (told_of _ _ _ _ _ c.name_of-name.ensures c.bytes-kept.ensures c.tell_of.ensures),
+          (rw (c.name_of-name.ensures, c.bytes-kept.ensures) at c.tell_of.ensures),
     )
