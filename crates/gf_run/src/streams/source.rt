@@ -1,11 +1,10 @@
 //! Readers that count their failures, and how an input is read whole.
 
-ghost use Rattle.std.specs.Prelude.{◌≡◌, ◌+◌, ◌<◌, ◌≤◌, length, MatchResult, IfOk, IfErr};
+ghost use Rattle.std.specs.Prelude.{◌≡◌, ◌+◌, ◌<◌, ◌≤◌, ◌++◌, length, take, MatchResult, IfOk, IfErr};
 ghost use Rattle.std.specs.Io.{ReadsAtMost};
 ghost use Rattle.std.specs.Io.KnownBytes.{ReadConsumes};
 ghost use Rattle.gf_run.specs.Streams.{CountsPull, GivesUp, HasRisen, Moves, Stream};
-ghost use Rattle.gf_run.specs.Transfers.{HasLength, IsNotRead, IsReadWhole, limit, too_long};
-ghost use Rattle.gf_run.specs.declared.streams.source.TheConstants.{CHUNK};
+ghost use Rattle.gf_run.specs.Transfers.{HasLength, IsNotRead, IsRead, IsReadWhole, limit, too_long};
 
 use crate::fault::{RunFault, Which, refusal};
 use crate::streams::turns::{PATIENCE, is_interruption};
@@ -74,14 +73,30 @@ fn too_long(which: Which) -> RunFault
     refusal(which, Fault::at_end(LIMIT, Why::TooLong))
 }
 
-/// How many bytes are asked for after this many: no more than one past the limit.
-fn room_after(len: usize) -> usize
-    requires { len ≤ limit }
-    ensures some { 0 < result }
-    ensures within { len + result ≤ limit + 1 }
-    ensures chunk { result ≤ CHUNK }
+/// Pulls what comes after these bytes to the front of a buffer, but no more than one byte past the
+/// limit, and returns how many bytes came: none at the end of the input.
+fn pull_next<R: Source>(
+    input: &mut R,
+    bytes: &[u8],
+    buffer: &mut [u8],
+    which: Which,
+) -> Result<usize, RunFault>
+    requires bytes { length bytes.now ≤ limit }
+    requires buffer { 0 < length buffer.now }
+    ensures within { IfOk result (λ n.
+        (n ≤ length buffer.new) × (length bytes.now + n ≤ limit)) }
+    ensures next { (start : R) → IsRead R.reader start input.old bytes.now → MatchResult result
+        (λ n. (n ≡ 0 → IsReadWhole R.reader start input.new bytes.now)
+        × (0 < n → IsRead R.reader start input.new (bytes.now ++ take n buffer.new)))
+        (λ fault. IsNotRead R.reader which fault start input.new) }
 {
-    (LIMIT - len + 1).min(CHUNK)
+    let left = LIMIT - bytes.len();
+    let room = (left + 1).min(buffer.len());
+    let count = pull_again(input, &mut buffer[..room], which)?;
+    if left < count {
+        return Err(too_long(which));
+    }
+    Ok(count)
 }
 
 /// Reads an input whole, and takes no more than one byte past the limit.
@@ -98,13 +113,9 @@ pub fn load<R: Source>(alloc: Global, input: &mut R, which: Which) -> Result<Vec
     let mut bytes = Vec::new(alloc);
     let mut buffer = [0; CHUNK];
     loop {
-        let room = room_after(bytes.len());
-        let count = pull_again(input, &mut buffer[..room], which)?;
+        let count = pull_next(input, bytes.as_slice(), &mut buffer, which)?;
         if count == 0 {
             return Ok(bytes);
-        }
-        if LIMIT - bytes.len() < count {
-            return Err(too_long(which));
         }
         bytes.extend_from_slice(&buffer[..count])?;
     }
