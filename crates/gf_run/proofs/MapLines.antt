@@ -47,10 +47,3 @@ line_and_map (strategic t) y true lines text says told untold is =
     (has.2 ∙ ap (λ (pairs : List NumberPair). flat_map pair_line pairs) has.1)
 line_and_map (strategic t) y false lines text says told untold is =
     no_lines false lines text is (untold refl)
-
--- the line and the lines, one after another
-pub two_parts : (same : Bool) (line part lines text : List ℕ) → line ≡ answer_line same
-    → part ≡ lines → text ≡ line ++ (part ++ []) → text ≡ answer_line same ++ lines
-two_parts same line part lines text is_line is_part is =
-    let whole = append-nil part in
-    cc

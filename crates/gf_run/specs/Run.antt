@@ -45,7 +45,7 @@ module _ {A W : Type 0} (writer : Stream W) (Answers : A → List ℕ → Type 0
 -- its canonical text is hashed
 abbrev pub ReadsHash : {R : Type 0} → Stream R → Names → Result (List ℕ) RunFault → R → R → Type 0
 ReadsHash reader names = Reads (IsReadWhole reader) (IsNotRead reader Which.Only)
-    (λ bytes result. MatchResult result (IsHashOf names bytes) (IsFaultOfFile bytes)) (Unit {0})
+    (λ bytes result. MatchResult result (IsHashOf names bytes) (IsRefusal bytes)) (Unit {0})
 
 module _ {R W : Type 0} (reader : Stream R) (writer : Stream W) where
   abbrev pub Runs : {A : Type 0} → (A → List ℕ → List ℕ → Type 0) → (List ℕ → RunFault → Type 0)

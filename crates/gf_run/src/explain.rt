@@ -63,15 +63,8 @@ fn failed(
     match error {
         Some(error) => {
             let reason = error.to_string(alloc)?;
-            push_line(
-                &mut text,
-                &[
-                    words,
-                    name,
-                    Part::Shown(b": "),
-                    Part::Shown(reason.as_bytes()),
-                ],
-            )?;
+            let (colon, reason) = (Part::Shown(b": "), Part::Shown(reason.as_bytes()));
+            push_line(&mut text, &[words, name, colon, reason])?;
         }
         None => push_line(&mut text, &[words, name])?,
     }

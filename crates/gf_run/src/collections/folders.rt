@@ -3,7 +3,6 @@
 ghost use Rattle.std.specs.Prelude.{◌≡◌, []};
 
 use crate::collections::file::CollectionFile;
-use crate::texts::joined::joined;
 use gf_words::{Input, LineEnd};
 use std::alloc::{AllocError, Global};
 use std::collections::BTreeSet;
@@ -14,7 +13,7 @@ use std::{fs, io};
 
 /// The file of this name in a folder. One whose name is not UTF-8 cannot be opened.
 fn file_in(alloc: Global, folder: &[u8], name: &[u8]) -> Result<CollectionFile, AllocError> {
-    match String::from_utf8(joined(alloc, &[folder, name])?) {
+    match String::from_utf8([folder, name].concat(alloc)?) {
         Ok(path) => Ok(CollectionFile::Input(Input::File(path))),
         Err(error) => {
             let shown = String::from_utf8_lossy(alloc, error.as_bytes())?;
@@ -73,46 +72,34 @@ pub enum Repeats {
     PassedOver,
 }
 
-/// A name in a list of lines without the carriage return that may stand before the line feed.
-fn without_return(mut name: Vec<u8>) -> Vec<u8> {
-    if name.as_slice().ends_with(b"\r") {
-        name.truncate(name.len() - 1);
+/// Adds the name in a line, unless it is blank. A carriage return may stand before its line feed.
+fn push_line(mut line: Vec<u8>, names: &mut Vec<Vec<u8>>) -> Result<(), AllocError> {
+    if line.as_slice().ends_with(b"\r") {
+        line.truncate(line.len() - 1);
     }
-    name
+    if !line.is_empty() {
+        names.push(line)?;
+    }
+    Ok(())
 }
 
-/// Adds the names in a list, each of which has this end. Blank lines are passed over. Names that
-/// came before an error stay.
-pub(crate) fn push_listed<R: Read + Drop>(
+/// Adds the names that a reader gives, each of which has this end. Blank lines are passed over.
+/// Names that came before an error stay.
+pub(crate) fn push_names<R: Read + Drop>(
     alloc: Global,
     input: R,
     end: LineEnd,
     names: &mut Vec<Vec<u8>>,
 ) -> io::Result<()> {
-    match end {
-        LineEnd::Null => push_names(alloc, input, 0, names),
-        LineEnd::LineFeed => {
-            for line in BufReader::new(alloc, input)?.split(alloc, b'\n') {
-                let name = without_return(line?);
-                if !name.is_empty() {
-                    names.push(name)?;
-                }
-            }
-            Ok(())
+    let last = match end {
+        LineEnd::LineFeed => b'\n',
+        LineEnd::Null => b'\0',
+    };
+    for name in BufReader::new(alloc, input)?.split(alloc, last) {
+        match end {
+            LineEnd::LineFeed => push_line(name?, names)?,
+            LineEnd::Null => names.push(name?)?,
         }
-    }
-}
-
-/// Adds the names that a reader gives, each ended by this byte. Those that came before an error
-/// stay.
-fn push_names<R: Read + Drop>(
-    alloc: Global,
-    input: R,
-    end: u8,
-    names: &mut Vec<Vec<u8>>,
-) -> io::Result<()> {
-    for name in BufReader::new(alloc, input)?.split(alloc, end) {
-        names.push(name?)?;
     }
     Ok(())
 }
@@ -124,15 +111,6 @@ pub(crate) fn is_whole(read: io::Result<()>) -> Result<bool, AllocError> {
         Err(error) if error.kind() == ErrorKind::OutOfMemory => Err(AllocError),
         Err(_) => Ok(false),
     }
-}
-
-/// Adds the names of what is in a folder.
-fn push_names_in<R: Files + AllocGlobal>(
-    rt: &R,
-    folder: &str,
-    names: &mut Vec<Vec<u8>>,
-) -> io::Result<()> {
-    push_names(rt.alloc(), rt.open_dir(folder)?, 0, names)
 }
 
 /// Puts the files of these names in a folder before everything that waits, so that the first comes
@@ -162,7 +140,11 @@ fn open_folder<R: Files + AllocGlobal>(
     let slash = if folder.ends_with('/') { "" } else { "/" };
     let path = [folder, slash].concat(rt.alloc())?;
     let mut names = Vec::new(rt.alloc());
-    let is_whole = is_whole(push_names_in(rt, path.as_str(), &mut names))?;
+    let read = match rt.open_dir(path.as_str()) {
+        Ok(entries) => push_names(rt.alloc(), entries, LineEnd::Null, &mut names),
+        Err(error) => Err(error),
+    };
+    let is_whole = is_whole(read)?;
     names.sort_unstable();
     push_entries(rt.alloc(), path.as_str(), names.as_slice(), waiting)?;
     Ok(is_whole)

@@ -2,17 +2,16 @@
 
 ghost use Rattle.std.specs.Prelude.{◌≡◌, ◌++◌, IfOk, MatchResult, codes};
 ghost use Rattle.gf_run.specs.LineText.{IsHashOf, IsLineOf, hash_line, kind_line};
-ghost use Rattle.gf_run.specs.FormText.{IsFaultOfFile};
+ghost use Rattle.gf_run.specs.FormText.{IsFaultOfFile, IsRefusal};
 ghost use Rattle.gf_run.specs.Run.{RunsLine};
 
-use crate::fault::{RunFault, Which, refused};
+use crate::fault::{RunFault, Which};
 use crate::streams::sink::Sink;
 use crate::streams::source::{Source, load};
 use crate::texts::answer::{Answer, answer_with, write_answer};
-use crate::texts::game::{are_canonical, kind_line, kind_of};
-use crate::texts::joined::joined;
+use crate::texts::game::{are_canonical, canon, kind_line, kind_of};
 use crate::texts::name::{end_text, mark, push_name, push_name_line};
-use gf_canon::{FileKind, Names, canonical_text, sha256_of};
+use gf_canon::{FileKind, Names, sha256_of};
 use gf_words::LineEnd;
 use std::alloc::{AllocError, Global};
 
@@ -31,19 +30,18 @@ pub enum FileLine {
 fn named_kind(alloc: Global, name: &str, kind: FileKind) -> Result<Vec<u8>, AllocError>
     ensures { IfOk result (λ line. line.items ≡ name.now ++ codes ": " ++ kind_line kind) }
 {
-    let mut line = joined(alloc, &[name.as_bytes(), b": "])?;
+    let mut line = Vec::from_slice(alloc, name.as_bytes())?;
+    line.extend_from_slice(b": ")?;
     line.extend_from_slice(kind_line(kind))?;
     Ok(line)
 }
 
 /// The hash of these bytes' canonical text: SHA-256 (FIPS 180-4).
 pub(crate) fn hash_of(alloc: Global, bytes: &[u8], names: Names) -> Result<[u8; 32], RunFault>
-    ensures { MatchResult result (λ hash. IsHashOf names bytes.now hash) (IsFaultOfFile bytes.now) }
+    ensures { MatchResult result (λ hash. IsHashOf names bytes.now hash) (IsRefusal bytes.now) }
 {
-    match canonical_text(alloc, bytes, names) {
-        Ok(text) => Ok(sha256_of(text)),
-        Err(fault) => Err(refused(fault)),
-    }
+    let answer = canon(alloc, bytes, names)?;
+    Ok(sha256_of(answer.text))
 }
 
 /// The line of a hash: in hexadecimal, two spaces and the name of the file, as `sha256sum` writes
@@ -52,57 +50,12 @@ fn hash_line(alloc: Global, name: &str, end: LineEnd, hash: [u8; 32]) -> Result<
     ensures { IfOk result (λ line. line.items ≡ hash_line end name.now hash) }
 {
     let digits = hex::encode(alloc, hash)?;
-    let mut line = joined(alloc, &[mark(name, end), digits.as_bytes(), b"  "])?;
+    let mut line = Vec::from_slice(alloc, mark(name, end))?;
+    line.extend_from_slice(digits.as_bytes())?;
+    line.extend_from_slice(b"  ")?;
     push_name(&mut line, name, end)?;
     line.extend_from_slice(end_text(end))?;
     Ok(line)
-}
-
-/// What is said of a kind.
-fn said_of_kind(alloc: Global, bytes: &[u8], name: &str) -> Result<Answer<bool>, RunFault>
-    ensures { MatchResult result
-        (λ answer. IsLineOf FileLine.Kind name.now answer.value bytes.now answer.text.rest)
-        (IsFaultOfFile bytes.now) }
-{
-    let kind = kind_of(alloc, bytes)?;
-    let line = named_kind(alloc, name, kind)?;
-    Ok(answer_with(true, line))
-}
-
-/// What is said of a hash.
-fn said_of_hash(
-    alloc: Global,
-    bytes: &[u8],
-    name: &str,
-    names: Names,
-    end: LineEnd,
-) -> Result<Answer<bool>, RunFault>
-    ensures { MatchResult result
-        (λ answer. IsLineOf (FileLine.Hash names end) name.now answer.value bytes.now answer.text.rest)
-        (IsFaultOfFile bytes.now) }
-{
-    let hash = hash_of(alloc, bytes, names)?;
-    let line = hash_line(alloc, name, end, hash)?;
-    Ok(answer_with(true, line))
-}
-
-/// What is said of a file that should be its own canonical text.
-fn said_of_canon(
-    alloc: Global,
-    bytes: &[u8],
-    name: &str,
-    names: Names,
-) -> Result<Answer<bool>, RunFault>
-    ensures { MatchResult result
-        (λ answer. IsLineOf (FileLine.NotCanonical names) name.now answer.value bytes.now answer.text.rest)
-        (IsFaultOfFile bytes.now) }
-{
-    let good = are_canonical(alloc, bytes, names)?;
-    let mut text = Vec::new(alloc);
-    if !good {
-        push_name_line(&mut text, name, LineEnd::LineFeed)?;
-    }
-    Ok(answer_with(good, text))
 }
 
 /// What is written about the file of this name, which has these bytes.
@@ -117,9 +70,22 @@ fn said_of(
         (IsFaultOfFile bytes.now) }
 {
     match line {
-        FileLine::Kind => said_of_kind(alloc, bytes, name),
-        FileLine::Hash(names, end) => said_of_hash(alloc, bytes, name, names, end),
-        FileLine::NotCanonical(names) => said_of_canon(alloc, bytes, name, names),
+        FileLine::Kind => {
+            let kind = kind_of(alloc, bytes)?;
+            Ok(answer_with(true, named_kind(alloc, name, kind)?))
+        }
+        FileLine::Hash(names, end) => {
+            let hash = hash_of(alloc, bytes, names)?;
+            Ok(answer_with(true, hash_line(alloc, name, end, hash)?))
+        }
+        FileLine::NotCanonical(names) => {
+            let good = are_canonical(alloc, bytes, names)?;
+            let mut text = Vec::new(alloc);
+            if !good {
+                push_name_line(&mut text, name, LineEnd::LineFeed)?;
+            }
+            Ok(answer_with(good, text))
+        }
     }
 }
 

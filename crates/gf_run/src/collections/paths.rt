@@ -6,7 +6,7 @@ ghost use Rattle.std.specs.String.{string_bytes};
 ghost use Rattle.gf_run.specs.Performs.{AreFoldersOf, ArePathsOpened, AreSomeOf, IsOfPaths};
 
 use crate::collections::file::CollectionFile;
-use crate::collections::folders::{KeptFiles, Repeats, is_whole, push_files, push_listed};
+use crate::collections::folders::{KeptFiles, Repeats, is_whole, push_files, push_names};
 use crate::fault::{RunFault, Which};
 use crate::opening::inputs::{Inputs, open_input};
 use gf_words::{Input, LineEnd, Paths};
@@ -34,7 +34,7 @@ fn names_in<R: AllocGlobal, I: Inputs>(
         return Err(RunFault::Read(Which::Only));
     };
     let mut names = Vec::new(rt.alloc());
-    if is_whole(push_listed(rt.alloc(), input, end, &mut names))? {
+    if is_whole(push_names(rt.alloc(), input, end, &mut names))? {
         Ok(names)
     } else {
         Err(RunFault::Read(Which::Only))

@@ -9,7 +9,6 @@ ghost use Rattle.gf_run.specs.Reports.{IsTold, IsToldOf, after_name};
 use crate::explain::{Cause, explanation};
 use crate::fault::{RunFault, Which, status};
 use crate::streams::sink::{Sink, push_all};
-use crate::texts::joined::joined;
 use crate::texts::report::{line_of, write_fault};
 use gf_explain::shown_name;
 use gf_words::WordsFault;
@@ -83,8 +82,10 @@ pub(crate) fn tell_unopened<E: Sink>(
 pub(crate) fn after_name(alloc: Global, name: &str, text: &[u8]) -> Result<Vec<u8>, AllocError>
     ensures { IfOk result (λ line. line.items ≡ after_name name.now text.now) }
 {
-    let shown = shown_name(alloc, name)?;
-    joined(alloc, &[shown.as_bytes(), b": ", text])
+    let mut line = Vec::from_slice(alloc, shown_name(alloc, name)?.as_bytes())?;
+    line.extend_from_slice(b": ")?;
+    line.extend_from_slice(text)?;
+    Ok(line)
 }
 
 /// A fault in words, after the name of its file.

@@ -9,7 +9,6 @@ ghost use Rattle.gf_run.specs.SameText.{IsAnswer, IsLine, IsLineAndMap, answer_l
 
 use crate::fault::RunFault;
 use crate::texts::answer::{Answer, answer_with};
-use crate::texts::joined::joined;
 use crate::texts::renumbering::pair_line;
 use gf_canon::{Names, NumberPair, ReceivePairs, pairs_of_files, same_by};
 use std::alloc::{AllocError, Global};
@@ -53,7 +52,8 @@ fn compare_with_map(alloc: Global, a: &[u8], b: &[u8]) -> Result<Answer<bool>, R
         text: Vec::new(alloc),
     };
     let same = pairs_of_files(alloc, a, b, &mut lines)?;
-    let text = joined(alloc, &[answer_line(same), lines.text.as_slice()])?;
+    let mut text = Vec::from_slice(alloc, answer_line(same))?;
+    text.extend_from_slice(lines.text.as_slice())?;
     Ok(answer_with(same, text))
 }
 
