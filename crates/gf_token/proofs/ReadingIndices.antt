@@ -11,7 +11,6 @@ use Rattle.gf_fraction.proofs.Offered.{ascii_from_digit, digit_from_ascii}
 use Rattle.gf_token.specs.Index.{IsDigits, IsIndex, ReadsIndex}
 use Rattle.gf_token.specs.NoIndex.{IsNoIndex}
 use Rattle.gf_token.specs.declared.index.IndexFault.{IndexFault}
-use Rattle.gf_token.specs.declared.index.IndexFault.TheVariants.{NotDigits, TooLarge}
 use Rattle.gf_token.specs.inner.Indices.{is_numeral, index_of, count_of, positive}
 
 all_digits : (ds : List ℕ) → list_all is_ascii_digit ds ≡ true → AllDigits 10 ds
@@ -51,8 +50,8 @@ index_is bs n e = index_by bs n (is_numeral bs) (nat_lt (digits_value 10 bs) (2 
 
 -- what is not an index is none
 pub no_index : (bs : List ℕ) (fault : IndexFault) → IsNoIndex bs fault → (n : ℕ) → ¬ (IsIndex bs n)
-no_index bs NotDigits h n k = h k.0
-no_index bs TooLarge h n k = omega (arith, h.1, k.1, k.2)
+no_index bs IndexFault.NotDigits h n k = h k.0
+no_index bs IndexFault.TooLarge h n k = omega (arith, h.1, k.1, k.2)
 
 none_by : (bs : List ℕ) (o : Option ℕ) → index_of bs ≡ o → ((n : ℕ) → ¬ (IsIndex bs n)) → o ≡ None
 none_by bs (Some n) e none = absurd (none n (index_is bs n e))

@@ -18,7 +18,7 @@ use Rattle.gf_fraction.specs.NumberSpelling.{Reading, IsSign, IsPlain, IsExponen
 use Rattle.gf_fraction.specs.NumberSpelling.{IsNumber}
 use Rattle.gf_fraction.specs.NumberSpelling.IsPlain.{whole, pointed}
 use Rattle.gf_fraction.specs.NumberSpelling.HasShape.{plain, raised, fraction}
-use Rattle.gf_fraction.specs.declared.fraction.NumberFault.TheVariants.{NotANumber}
+use Rattle.gf_fraction.specs.declared.fraction.NumberFault.{NumberFault}
 use Rattle.gf_fraction.specs.Offered.{number_of}
 use Rattle.gf_fraction.proofs.Offered.{all_both, all_parts, number_again, written_is_read}
 
@@ -61,7 +61,7 @@ bare_shape _ _ (fraction num den is_num is_den) = grind (arith, bare_both, bare_
 pub number_bare : (text : List ℕ) (r : Ratio) → IsNumber text r → IsSpelled (Bare text)
 unfolding number_of
 number_bare [] r h =
-    absurd (let e : Err NotANumber ≡ Ok r = number_again [] r h in cc)
+    absurd (let e : Err NumberFault.NotANumber ≡ Ok r = number_again [] r h in cc)
 number_bare (b ∷ bytes) r h = grind (arith, bare_both, bare_sign, bare_shape)
 
 pub number_spelled : (r : Ratio) → IsFraction r → IsSpelled (Bare (number_text r))

@@ -4,18 +4,17 @@ use Rattle.gf_token.specs.Token.{Token, Lexeme, lexeme}
 use Rattle.gf_token.specs.Token.Token.{Opening, Closing, Comma, Text, Bare, Broken}
 use Rattle.gf_token.specs.Label.{label_of}
 use Rattle.gf_token.specs.declared.fault.Fault.{Fault}
-use Rattle.gf_token.specs.declared.fault.Why.TheVariants.{Unterminated}
+use Rattle.gf_token.specs.declared.fault.Why.{Why}
 use Rattle.gf_token.specs.declared.token.Kind.{Kind}
-use Rattle.gf_token.specs.declared.token.Kind.TheVariants as kinds
 use Rattle.gf_token.specs.declared.token.Token as code
 
 -- the token that a kind is
 abbrev pub token_of : Kind → Token
-token_of kinds.Opening = Opening
-token_of kinds.Closing = Closing
-token_of kinds.Comma = Comma
-token_of (kinds.Text label) = Text (label_of label)
-token_of (kinds.Bare bytes) = Bare bytes.now
+token_of Kind.Opening = Opening
+token_of Kind.Closing = Closing
+token_of Kind.Comma = Comma
+token_of (Kind.Text label) = Text (label_of label)
+token_of (Kind.Bare bytes) = Bare bytes.now
 
 -- a token of the code with its span
 abbrev pub lexeme_of : code.Token → Lexeme
@@ -26,4 +25,5 @@ abbrev pub Nexts : List Lexeme → Result (Option code.Token) Fault → List Lex
 Nexts before (Ok (Some t)) now = before ≡ lexeme_of t ∷ now
 Nexts before (Ok None) now = (before ≡ []) × (now ≡ [])
 Nexts before (Err f) now =
-    (before ≡ lexeme f.span.start f.span.end Broken ∷ []) × (f.why ≡ Unterminated) × (now ≡ before)
+    (before ≡ lexeme f.span.start f.span.end Broken ∷ []) × (f.why ≡ Why.Unterminated)
+    × (now ≡ before)

@@ -8,7 +8,6 @@ use Rattle.gf_token.specs.TokenSpelling.{Spells}
 use Rattle.gf_token.specs.declared.fault.Fault.{Fault}
 use Rattle.gf_token.specs.declared.fault.Span.{Span}
 use Rattle.gf_token.specs.declared.fault.Why.{Why}
-use Rattle.gf_token.specs.declared.fault.Why.TheVariants.{Unterminated}
 
 pub record Remaining : Type 0 where
   pub input : List ℕ
@@ -50,7 +49,7 @@ abbrev pub refusal : ℕ → Why → List Lexeme → Fault
 refusal end why [] = record { span = record { start = end; end = end }; why = why }
 refusal end why (l ∷ ls) = record {
   span = record { start = l.start; end = l.end };
-  why = if is_broken l.token then Unterminated else why;
+  why = if is_broken l.token then Why.Unterminated else why;
 }
 
 -- the next token does not pass the test, and is refused; or the end is; nothing is taken

@@ -3,7 +3,7 @@
 //! What is called for each token is `inline(always)`: wide values would otherwise pass through
 //! memory.
 
-ghost use Rattle.std.specs.Prelude.{◌≡◌, ◌≤◌, ◌∷◌, [], false, true, length, IfSome, MatchOption};
+ghost use Rattle.std.specs.Prelude.{◌≡◌, ◌≤◌, ◌∷◌, false, true, length, IfSome, MatchOption};
 ghost use Rattle.gf_fraction.specs.NoNumber.{Reads};
 ghost use Rattle.gf_token.specs.HeldTokens.{Nexts};
 ghost use Rattle.gf_token.specs.Index.{ReadsIndex};

@@ -3,8 +3,6 @@
 ghost use Rattle.std.specs.Prelude.{MatchResult};
 ghost use Rattle.gf_token.specs.Next.{is_letter, is_word};
 ghost use Rattle.gf_token.specs.Remaining.{IsNextRefused, Takes};
-ghost use Rattle.gf_token.specs.declared.fault.What.TheVariants as what;
-ghost use Rattle.gf_token.specs.declared.fault.Why.TheVariants.{Expected};
 
 use crate::cursor::Cursor;
 use crate::fault::{Fault, What, Why};
@@ -18,7 +16,7 @@ impl<'a> Cursor<'a> {
     /// Any other token, or the end, is refused, and nothing is taken.
     pub fn word(&mut self, word: &[u8], due: What) -> Result<(), Fault>
         ensures { MatchResult result (λ _. Takes (is_word word.now) self.old self.new)
-            (IsNextRefused (is_word word.now) (Expected due) self.old self.new) }
+            (IsNextRefused (is_word word.now) (Why.Expected due) self.old self.new) }
     {
         if self.takes_word(word) {
             Ok(())
@@ -35,7 +33,7 @@ impl<'a> Cursor<'a> {
     /// Any other token, or the end, is refused, and nothing is taken.
     pub fn letter(&mut self) -> Result<(), Fault>
         ensures { MatchResult result (λ _. Takes is_letter self.old self.new)
-            (IsNextRefused is_letter (Expected what.Letter) self.old self.new) }
+            (IsNextRefused is_letter (Why.Expected What.Letter) self.old self.new) }
     {
         if self.takes_word(b"R".as_slice()) || self.takes_word(b"D".as_slice()) {
             Ok(())

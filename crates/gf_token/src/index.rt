@@ -1,6 +1,6 @@
 //! Indices: counts, and the numbers of players, information sets and outcomes.
 
-ghost use Rattle.std.specs.Prelude.{◌≡◌, MatchResult};
+ghost use Rattle.std.specs.Prelude.{MatchResult};
 ghost use Rattle.gf_token.specs.Index.{IsIndex, ReadsIndex};
 ghost use Rattle.gf_token.specs.NoIndex.{IsNoIndex};
 

@@ -1,7 +1,7 @@
 //! Labels: the texts of a file.
 
 ghost use Rattle.std.specs.Prelude.{◌≡◌, ◌↔◌, IsTrue, IsSome, IfSome};
-ghost use Rattle.gf_token.specs.LabelSpelling.{is_spelling, is_spelling_after};
+ghost use Rattle.gf_token.specs.LabelSpelling.{is_spelling};
 
 /// A label as a file spells it, between its quotes. Labels are equal if their bytes are.
 ///

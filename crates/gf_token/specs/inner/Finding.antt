@@ -15,7 +15,7 @@ use Rattle.gf_token.specs.inner.Lexing.{lex}
 use Rattle.gf_token.specs.inner.Lexing.Mode.{Gap}
 use Rattle.gf_token.specs.HeldTokens.{lexeme_of}
 use Rattle.gf_token.specs.declared.fault.Fault.{Fault}
-use Rattle.gf_token.specs.declared.fault.Why.TheVariants.{Unterminated}
+use Rattle.gf_token.specs.declared.fault.Why.{Why}
 use Rattle.gf_token.specs.declared.token.Token.{Token}
 
 -- the tokens of the bytes from place `at` on
@@ -76,4 +76,4 @@ pub record ClosesText (bytes : List ℕ) (start end : ℕ) : Type 0 where
 abbrev pub Finds : List ℕ → ℕ → Result Token Fault → Type 0
 Finds bytes start (Ok t) = lexed bytes start ≡ lexeme_of t ∷ lexed bytes t.span.end
 Finds bytes start (Err f) =
-    (f.why ≡ Unterminated) × (lexed bytes start ≡ lexeme f.span.start f.span.end Broken ∷ [])
+    (f.why ≡ Why.Unterminated) × (lexed bytes start ≡ lexeme f.span.start f.span.end Broken ∷ [])

@@ -6,7 +6,6 @@ use Rattle.gf_token.specs.Token.{Token, Lexeme}
 use Rattle.gf_token.specs.declared.fault.Fault.{Fault}
 use Rattle.gf_token.specs.declared.fault.Span.{Span}
 use Rattle.gf_token.specs.declared.fault.Why.{Why}
-use Rattle.gf_token.specs.declared.fault.Why.TheVariants.{Memory}
 
 infixl 10 ◌>>=◌
 abbrev pub ◌>>=◌ : {A B E : Type 0} → Result A E → (A → Result B E) → Result B E
@@ -58,7 +57,7 @@ pub record HasPassedPlace {C : Type 0} (before : Answer C) (span : Span) : Type 
 -- the code refuses as the machine does, or for lack of memory if the machine goes on
 pub data Fails {C : Type 0} (f : Fault) (before : Answer C) : Type 0 where
   of_file : before.machine ≡ Err f → Fails f before
-  of_memory : f.why ≡ Memory → HasPassedPlace before f.span → Fails f before
+  of_memory : f.why ≡ Why.Memory → HasPassedPlace before f.span → Fails f before
 
 -- the machine answers to the tokens before a call as to those after it
 abbrev pub Goes : {A C : Type 0} → Answer C → Result A Fault → Answer C → Type 0

@@ -5,7 +5,6 @@ use Rattle.std.proofs.lemmas.Grind.{pow_more}
 use Rattle.std.proofs.lemmas.Str.Parse.{digit_at}
 use Rattle.std.proofs.lemmas.Int.Digits.{digits_more, digits_value_more}
 use Rattle.gf_token.proofs.index.read_index.Goals as goal
-use Rattle.gf_token.proofs.index.read_index.Goals.{then-is_long, else-is_long}
 
 -- a number after which a further digit has room in 64 bits
 has_room : (i n value : ℕ) → i < n → (n ≤ 19 → value < 10 ^ i) → (19 < n → value ≤ 2 ^ 32)

@@ -15,7 +15,6 @@ use Rattle.gf_token.proofs.scan.end_of_label.Goals.{
 use Rattle.gf_token.proofs.scan.end_of_label.Goals.{
   else-input-quote-eq34-via-then-input-quote-eq34+else-eq,
 }
-use Rattle.gf_token.proofs.scan.end_of_label.Goals.{else-input-quote-eq34-via-else-input-quote-eq34}
 use Rattle.gf_token.proofs.scan.end_of_label.Goals as goal
 
 pub returns-then-input-start-ne34 : goal.returns-then-input-start-ne34
