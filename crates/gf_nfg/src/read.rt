@@ -1,6 +1,6 @@
 //! Strategic files as they are read from bytes.
 
-ghost use Rattle.std.specs.Prelude.{◌≡◌, IfErr, IfOk, OnOk, length};
+ghost use Rattle.std.specs.Prelude.{◌≡◌, IfErr, IfOk, OnOk};
 ghost use Rattle.gf_token.specs.declared.fault.Why.TheVariants.{Memory};
 ghost use Rattle.gf_token.specs.ReadAs.{IsReadAs};
 ghost use Rattle.gf_nfg.specs.TableText.{SpellsTable};

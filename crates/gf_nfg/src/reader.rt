@@ -5,7 +5,6 @@ ghost use Rattle.std.specs.Prelude.{◌≡◌, ◌≤◌, ◌∷◌, ◌++◌, [
 ghost use Rattle.std.specs.Prelude.{IfOk, MatchResult, OnOk, vec_capacity, vec_len};
 ghost use Rattle.gf_token.specs.Label.{label_of};
 ghost use Rattle.gf_token.specs.Remaining.{StandsBefore};
-ghost use Rattle.gf_token.specs.declared.fault.Why.TheVariants.{Memory};
 ghost use Rattle.gf_token.specs.TokenSpelling.{Spells};
 ghost use Rattle.gf_nfg.specs.inner.Heard.{Fails};
 ghost use Rattle.gf_nfg.specs.inner.Machine.{nothing};
@@ -13,7 +12,6 @@ ghost use Rattle.gf_nfg.specs.Position.Position.{FlatPayoffs, Format, InOutcomes
 ghost use Rattle.gf_nfg.specs.inner.ReaderState.{HasCounts, HasToldAll, StandsAt, Telling, answer};
 ghost use Rattle.gf_nfg.specs.inner.ReaderState.{body_answer, content_in, labels_of};
 ghost use Rattle.gf_nfg.specs.inner.Told.{told_heading};
-ghost use Rattle.gf_nfg.specs.declared.receive.Version.TheVariants as version;
 
 mod body;
 mod heading;
@@ -41,7 +39,7 @@ fn keep<'a>(labels: &mut Vec<Label<'a>>, text: TextToken<'a>) -> Result<(), Faul
     ensures { MatchResult result
         (λ _. labels_of labels.new.items
         ≡ labels_of labels.old.items ++ label_of text.entry.label ∷ [])
-        (λ f. (f ≡ record { span = text.entry.span; why = Memory })
+        (λ f. (f ≡ record { span = text.entry.span; why = Why.Memory })
         × (vec_capacity labels.old ≤ vec_len labels.old)) }
 {
     let Ok(()) = labels.push(text.label) else {
@@ -142,7 +140,7 @@ impl<'a> Reader<'a> {
     /// Reads and tells the outcomes, after their opening brace, and the number of one at each
     /// profile, to the end.
     fn tell_outcomes<R: Receive<'a>>(&mut self, to: &mut R) -> Result<(), Fault>
-        ensures { (b : Telling R) → b.version ≡ version.Outcomes
+        ensures { (b : Telling R) → b.version ≡ Version.Outcomes
             → StandsAt R.holds b (InOutcomes 0) self.old.tokens to.old
             → b.heading ≡ self.old.heading → MatchResult result
             (λ _. HasToldAll (R.holds b.untold) b.whole self.new.heading to.new)

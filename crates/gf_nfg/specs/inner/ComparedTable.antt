@@ -4,14 +4,13 @@ use Rattle.gf_fraction.specs.Ratio.{Ratio}
 use Rattle.gf_nfg.specs.inner.Told.{Told}
 use Rattle.gf_nfg.specs.declared.comparison.Comparison.{Comparison}
 use Rattle.gf_nfg.specs.declared.receive.Version.{Version}
-use Rattle.gf_nfg.specs.declared.receive.Version.TheVariants.{Outcomes, Payoffs}
 
 -- With any payoffs after those that were told they are the table's exactly when no difference was
 -- found, and these are what is left of the table's; or the payoffs are kept.
 abbrev pub ComparesBody : Version → List Ratio → Comparison → Told → Type 0
-ComparesBody Payoffs all c told = (rest : List Ratio)
+ComparesBody Version.Payoffs all c told = (rest : List Ratio)
     → (all ≡ told.payoffs ++ rest) ↔ (IsTrue c.same × (c.left ≡ rest))
-ComparesBody Outcomes all c told = c.kept.payoffs.items ≡ told.payoffs
+ComparesBody Version.Outcomes all c told = c.kept.payoffs.items ≡ told.payoffs
 
 pub record IsCompared (all : List Ratio) (c : Comparison) (told : Told) : Type 0 where
   pub version_is : c.version ≡ told.version

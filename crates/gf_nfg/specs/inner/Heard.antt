@@ -5,7 +5,6 @@ use Rattle.gf_token.specs.Remaining.{Remaining}
 use Rattle.gf_token.specs.Token.{Token, Lexeme}
 use Rattle.gf_token.specs.declared.fault.Fault.{Fault}
 use Rattle.gf_token.specs.declared.fault.Why.{Why}
-use Rattle.gf_token.specs.declared.fault.Why.TheVariants.{TooManyProfiles}
 use Rattle.gf_token.specs.Offered as any_format
 pub use Rattle.gf_token.specs.Offered.{Fails, Goes}
 use Rattle.gf_nfg.specs.Limit.{profile_limit}
@@ -19,7 +18,7 @@ is_past (p.BeforeList left) profiles = nat_lt profile_limit profiles
 is_past _ profiles = false
 
 abbrev pub within : Result State Why → Result State Why
-within (Ok s) = if is_past s.position s.content.profiles then Err TooManyProfiles else Ok s
+within (Ok s) = if is_past s.position s.content.profiles then Err Why.TooManyProfiles else Ok s
 within (Err why) = Err why
 
 -- the next token

@@ -6,9 +6,8 @@ use Rattle.gf_nfg.specs.Table.{IsTable, Table, rows}
 use Rattle.gf_nfg.specs.TableParts.{rows_of, table_with}
 use Rattle.gf_nfg.specs.inner.PayoffLists.{payoffs_in}
 use Rattle.gf_nfg.specs.inner.Told.{Told}
-use Rattle.gf_nfg.specs.declared.receive.Version.TheVariants.{Outcomes}
+use Rattle.gf_nfg.specs.declared.receive.Version.{Version}
 use Rattle.gf_nfg.specs.declared.listed.Body.{Body}
-use Rattle.gf_nfg.specs.declared.listed.Body.TheVariants.{InTurn, Shared}
 use Rattle.gf_nfg.specs.declared.listed.Listing.{Listing}
 
 -- all payoffs are small, or the others follow; in outcome version none is small
@@ -16,21 +15,21 @@ pub record IsListing (l : Listing) (told : Told) : Type 0 where
   pub payoffs_are : payoffs_in l.whole.items l.kept.payoffs.items ≡ told.payoffs
   pub numbers_are : l.kept.numbers.items ≡ told.numbers
   pub none_other : IsTrue l.small → l.kept.payoffs.items ≡ []
-  pub none_small : told.version ≡ Outcomes → ¬ (IsTrue l.small) × (l.whole.items ≡ [])
+  pub none_small : told.version ≡ Version.Outcomes → ¬ (IsTrue l.small) × (l.whole.items ≡ [])
 
 -- the table that is kept
 abbrev pub listed : Body → Table
-listed (InTurn names numbers others) = table_with names
+listed (Body.InTurn names numbers others) = table_with names
     (rows_of (length names.players) (product (map length names.strategies))
     (payoffs_in numbers.items others.items))
-listed (Shared t) = t
+listed (Body.Shared t) = t
 
 -- payoffs in turn are those of the table
 abbrev pub IsFull : Body → Type 0
-IsFull (InTurn names numbers others) =
-    flat_map (λ row. row) (rows (listed (InTurn names numbers others)))
+IsFull (Body.InTurn names numbers others) =
+    flat_map (λ row. row) (rows (listed (Body.InTurn names numbers others)))
     ≡ payoffs_in numbers.items others.items
-IsFull (Shared t) = ⊤
+IsFull (Body.Shared t) = ⊤
 
 pub record IsListed (body : Body) : Type 0 where
   pub is_table : IsTable (listed body)

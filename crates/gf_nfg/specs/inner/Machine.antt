@@ -8,10 +8,7 @@ use Rattle.gf_token.specs.Next.{is_broken}
 use Rattle.gf_token.specs.Token.{Token}
 use Rattle.gf_token.specs.Token.Token.{Opening, Closing, Comma, Text, Bare}
 use Rattle.gf_token.specs.declared.fault.What.{What}
-use Rattle.gf_token.specs.declared.fault.What.TheVariants as what
 use Rattle.gf_token.specs.declared.fault.Why.{Why}
-use Rattle.gf_token.specs.declared.fault.Why.TheVariants.{Expected, BadIndex, NoEntry}
-use Rattle.gf_token.specs.declared.fault.Why.TheVariants.{UnknownOutcome, Unterminated}
 use Rattle.gf_fraction.specs.Ratio.{Ratio}
 use Rattle.gf_fraction.specs.declared.fraction.NumberFault.{NumberFault}
 use Rattle.gf_fraction.specs.Offered.{number_of}
@@ -80,43 +77,43 @@ with_choices c choices = record c { choices = c.choices ++ choices }
 
 -- what is due there, which a refusal of another token names
 abbrev pub due_at : Position → What
-due_at p.Format = what.Format
-due_at p.Version = what.Version
-due_at p.Letter = what.Letter
-due_at p.Title = what.Text
-due_at p.BeforePlayers = what.Opening
-due_at p.InPlayers = what.Text
-due_at p.BeforeStrategies = what.Opening
-due_at (p.FirstStrategies zero) = what.Closing
-due_at (p.FirstStrategies (suc left)) = what.Strategies
-due_at (p.Counts zero) = what.Closing
-due_at (p.Counts (suc left)) = what.Index
-due_at (p.BeforeList zero) = what.Closing
-due_at (p.BeforeList (suc left)) = what.Opening
-due_at (p.InList left labels) = what.Text
-due_at (p.AfterStrategies zero) = what.End
-due_at (p.AfterStrategies (suc left)) = what.Number
-due_at (p.AfterComment zero) = what.End
-due_at (p.AfterComment (suc left)) = what.Number
-due_at (p.FlatPayoffs zero) = what.End
-due_at (p.FlatPayoffs (suc left)) = what.Number
-due_at (p.InOutcomes outcomes) = what.Opening
-due_at (p.OutcomeName outcomes) = what.Text
-due_at (p.BracedPayoff may outcomes zero) = what.Closing
-due_at (p.BracedPayoff may outcomes (suc left)) = what.Number
-due_at (p.OutcomeNumbers outcomes zero) = what.End
-due_at (p.OutcomeNumbers outcomes (suc left)) = what.Index
+due_at p.Format = What.Format
+due_at p.Version = What.Version
+due_at p.Letter = What.Letter
+due_at p.Title = What.Text
+due_at p.BeforePlayers = What.Opening
+due_at p.InPlayers = What.Text
+due_at p.BeforeStrategies = What.Opening
+due_at (p.FirstStrategies zero) = What.Closing
+due_at (p.FirstStrategies (suc left)) = What.Strategies
+due_at (p.Counts zero) = What.Closing
+due_at (p.Counts (suc left)) = What.Index
+due_at (p.BeforeList zero) = What.Closing
+due_at (p.BeforeList (suc left)) = What.Opening
+due_at (p.InList left labels) = What.Text
+due_at (p.AfterStrategies zero) = What.End
+due_at (p.AfterStrategies (suc left)) = What.Number
+due_at (p.AfterComment zero) = What.End
+due_at (p.AfterComment (suc left)) = What.Number
+due_at (p.FlatPayoffs zero) = What.End
+due_at (p.FlatPayoffs (suc left)) = What.Number
+due_at (p.InOutcomes outcomes) = What.Opening
+due_at (p.OutcomeName outcomes) = What.Text
+due_at (p.BracedPayoff may outcomes zero) = What.Closing
+due_at (p.BracedPayoff may outcomes (suc left)) = What.Number
+due_at (p.OutcomeNumbers outcomes zero) = What.End
+due_at (p.OutcomeNumbers outcomes (suc left)) = What.Index
 
 -- ---- what a token leads to
 
 -- a count was due, before this many more, and these bytes stood there
 abbrev pub counted : ℕ → Content → Option ℕ → Result State Why
-counted left c None = Err BadIndex
+counted left c None = Err Why.BadIndex
 counted left c (Some n) = Ok (at (p.Counts left) (with_count c n))
 
 -- a list with this many labels was closed, before this many more lists
 abbrev pub listed : ℕ → Content → ℕ → Result State Why
-listed left c zero = Err NoEntry
+listed left c zero = Err Why.NoEntry
 listed left c (suc n) = Ok (at (p.BeforeList left) (with_count c (suc n)))
 
 -- after the strategies, a payoff is due for each player at each profile
@@ -131,20 +128,20 @@ paid q c (Ok n) = Ok (at q (with_payoffs c (n ∷ [])))
 -- after this many outcomes, the number of one was due, before this many more, and these bytes stood
 -- there
 abbrev pub chosen : ℕ → ℕ → Content → Option ℕ → Result State Why
-chosen outcomes left c None = Err BadIndex
+chosen outcomes left c None = Err Why.BadIndex
 chosen outcomes left c (Some k) =
     if nat_le k outcomes then Ok (at (p.OutcomeNumbers outcomes left) (with_choices c (k ∷ [])))
-    else Err UnknownOutcome
+    else Err Why.UnknownOutcome
 
 -- the next token at a position, if it is not an unterminated text
 abbrev pub step_at : Position → Content → Token → Result State Why
 step_at p.Format c (Bare b) =
-    if pointwise nat_eq b (codes "NFG") then Ok (at p.Version c) else Err (Expected what.Format)
+    if pointwise nat_eq b (codes "NFG") then Ok (at p.Version c) else Err (Why.Expected What.Format)
 step_at p.Version c (Bare b) =
-    if pointwise nat_eq b (codes "1") then Ok (at p.Letter c) else Err (Expected what.Version)
+    if pointwise nat_eq b (codes "1") then Ok (at p.Letter c) else Err (Why.Expected What.Version)
 step_at p.Letter c (Bare b) =
     if pointwise nat_eq b (codes "R") || pointwise nat_eq b (codes "D") then Ok (at p.Title c)
-    else Err (Expected what.Letter)
+    else Err (Why.Expected What.Letter)
 step_at p.Title c (Text label) = Ok (at p.BeforePlayers (with_title c label))
 step_at p.BeforePlayers c Opening = Ok (at p.InPlayers c)
 step_at p.InPlayers c (Text label) = Ok (at p.InPlayers (with_players c (label ∷ [])))
@@ -176,16 +173,16 @@ step_at (p.BracedPayoff may outcomes zero) c Closing = Ok (at (p.InOutcomes (out
 step_at (p.BracedPayoff may outcomes (suc left)) c (Bare b) =
     paid (p.BracedPayoff true outcomes left) c (number_of b)
 step_at (p.OutcomeNumbers outcomes (suc left)) c (Bare b) = chosen outcomes left c (index_of b)
-step_at q c t = Err (Expected (due_at q))
+step_at q c t = Err (Why.Expected (due_at q))
 
 -- the next token
 abbrev pub step : State → Token → Result State Why
-step s t = if is_broken t then Err Unterminated else step_at s.position s.content t
+step s t = if is_broken t then Err Why.Unterminated else step_at s.position s.content t
 
 -- the answer at the end of the tokens
 abbrev pub ended : Content → What → Result Content Why
-ended c what.End = Ok c
-ended c expected = Err (Expected expected)
+ended c What.End = Ok c
+ended c expected = Err (Why.Expected expected)
 
 abbrev pub finish : State → Result Content Why
 finish s = ended s.content (due_at s.position)

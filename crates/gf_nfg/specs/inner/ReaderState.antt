@@ -16,7 +16,6 @@ use Rattle.gf_nfg.specs.declared.heading.Heading.{Heading}
 use Rattle.gf_nfg.specs.declared.parts.Parts.{Parts}
 use Rattle.gf_nfg.specs.declared.reader.Reader.{Reader}
 use Rattle.gf_nfg.specs.declared.receive.Version.{Version}
-use Rattle.gf_nfg.specs.declared.receive.Version.TheVariants as version
 
 abbrev pub labels_of : List Label → List (List ℕ)
 labels_of labels = map label_of labels
@@ -74,8 +73,8 @@ told_answer q tokens t = heard (at q (content_told t)) tokens
 
 -- where the body begins, which has this many payoffs if it is a flat list
 abbrev pub body_at : Version → ℕ → Position
-body_at version.Payoffs left = p.FlatPayoffs left
-body_at version.Outcomes left = p.InOutcomes 0
+body_at Version.Payoffs left = p.FlatPayoffs left
+body_at Version.Outcomes left = p.InOutcomes 0
 
 abbrev pub body_answer : Version → Reader → Answer
 body_answer v r = answer (body_at v (length r.heading.players.items * r.heading.profiles.count)) r
@@ -98,7 +97,7 @@ pub record StandsAt {T : Type 0} (holds : T → T → Told → Type 0) (b : Tell
     (tokens : Remaining) (to : T) : Type 0 where
   pub payoffs : List Ratio
   pub numbers : List ℕ
-  pub unnumbered : b.version ≡ version.Payoffs → numbers ≡ []
+  pub unnumbered : b.version ≡ Version.Payoffs → numbers ≡ []
   pub goes : b.whole ≡ told_answer q tokens (told_of b payoffs numbers)
   pub holding : holds b.untold to (told_of b payoffs numbers)
 
@@ -116,5 +115,5 @@ pub record HasToldAll {T : Type 0} (holds : T → Told → Type 0) (before : Ans
   pub told : Told
   pub same : told.heading ≡ heading
   pub whole : before.machine ≡ Ok (content_told told)
-  pub unnumbered : told.version ≡ version.Payoffs → told.numbers ≡ []
+  pub unnumbered : told.version ≡ Version.Payoffs → told.numbers ≡ []
   pub holding : holds to told

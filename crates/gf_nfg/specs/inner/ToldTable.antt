@@ -9,7 +9,6 @@ use Rattle.gf_nfg.specs.TableText.{SpellsTable}
 use Rattle.gf_nfg.specs.inner.Told.{Told}
 use Rattle.gf_nfg.specs.declared.heading.Heading.{Heading}
 use Rattle.gf_nfg.specs.declared.receive.Version.{Version}
-use Rattle.gf_nfg.specs.declared.receive.Version.TheVariants.{Payoffs}
 
 -- these parts mean a table within the limit, which the bytes spell
 pub record MeansTable (bytes : List ℕ) (c : Content) : Type 0 where
@@ -25,7 +24,7 @@ pub record HasToldTable {T : Type 0} (holds : T → Told → Type 0) (bytes : Li
   pub payoffs : List Ratio
   pub numbers : List ℕ
   pub means : MeansTable bytes (content_with heading payoffs numbers)
-  pub unnumbered : version ≡ Payoffs → numbers ≡ []
+  pub unnumbered : version ≡ Version.Payoffs → numbers ≡ []
   pub holding : holds to (record {
     version = version;
     heading = heading;

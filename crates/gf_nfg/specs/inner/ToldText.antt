@@ -5,7 +5,7 @@ use Rattle.gf_nfg.specs.inner.Meaning.{names_in}
 use Rattle.gf_nfg.specs.inner.ReaderState.{content_in}
 use Rattle.gf_nfg.specs.inner.TextParts.{heading_text, names_by, payoffs_text}
 use Rattle.gf_nfg.specs.inner.Told.{Told}
-use Rattle.gf_nfg.specs.declared.receive.Version.TheVariants.{Outcomes, Payoffs}
+use Rattle.gf_nfg.specs.declared.receive.Version.{Version}
 use Rattle.gf_nfg.specs.declared.text.Text.{Text}
 
 -- the lines of payoffs, so many in each; without players the only line is empty
@@ -26,8 +26,8 @@ pub record HasText (named : Bool) (t : Text) (told : Told) : Type 0 where
   pub named_is : t.named ≡ named
   pub version_is : t.version ≡ told.version
   pub width_is : t.width ≡ length (content_in told.heading).players
-  pub lines : t.version ≡ Payoffs
+  pub lines : t.version ≡ Version.Payoffs
       → AreLaid t.width t.left (told_text named told) t.text.items told.payoffs
-  pub kept : t.version ≡ Outcomes
+  pub kept : t.version ≡ Version.Outcomes
       → (t.text.items ≡ told_text named told) × (t.kept.payoffs.items ≡ told.payoffs)
   pub numbers_are : t.kept.numbers.items ≡ told.numbers

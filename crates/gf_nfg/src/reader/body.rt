@@ -6,12 +6,10 @@
 
 ghost use Rattle.std.specs.Prelude.{◌≡◌, ◌<◌, ◌≤◌, ◌+◌, ◌-◌, ℕ, Ok, length, true, false};
 ghost use Rattle.std.specs.Prelude.{IfErr, MatchResult, OnOk};
-ghost use Rattle.gf_token.specs.declared.fault.Why.TheVariants.{Memory};
 ghost use Rattle.gf_nfg.specs.inner.Heard.{Fails, heard};
 ghost use Rattle.gf_nfg.specs.inner.Machine.{Content, at};
-ghost use Rattle.gf_nfg.specs.Position.Position.{BracedPayoff};
-ghost use Rattle.gf_nfg.specs.Position.Position.{FlatPayoffs};
-ghost use Rattle.gf_nfg.specs.Position.Position.{InOutcomes, OutcomeName, OutcomeNumbers};
+ghost use Rattle.gf_nfg.specs.Position.Position.{BracedPayoff, FlatPayoffs, InOutcomes};
+ghost use Rattle.gf_nfg.specs.Position.Position.{OutcomeName, OutcomeNumbers};
 ghost use Rattle.gf_nfg.specs.inner.ReaderState.{GoesTo, IsCounted, StandsAt, Telling};
 ghost use Rattle.gf_nfg.specs.declared.receive.Version.TheVariants as version;
 
@@ -31,7 +29,7 @@ fn payoff<'a, R: Receive<'a>>(tokens: &mut Cursor<'a>, to: &mut R) -> Result<(),
     ensures shorter { OnOk result (length tokens.new.ahead ≤ length tokens.old.ahead) }
 
     // Memory is refused only if the receiver had no room.
-    ensures full { IfErr result (λ f. f.why ≡ Memory → R.payoffs_full to.old) }
+    ensures full { IfErr result (λ f. f.why ≡ Why.Memory → R.payoffs_full to.old) }
 {
     let Some((word, number)) = tokens.number() else {
         return Err(tokens.refusal(Why::Expected(What::Number)));
@@ -155,7 +153,7 @@ fn number<'a, R: Receive<'a>>(
         (StandsAt R.holds b (OutcomeNumbers n (due - 1)) tokens.new to.new) }
 
     // Memory is refused only if the receiver had no room.
-    ensures full { IfErr result (λ f. f.why ≡ Memory → R.numbers_full to.old) }
+    ensures full { IfErr result (λ f. f.why ≡ Why.Memory → R.numbers_full to.old) }
 {
     let Some((word, index)) = tokens.index() else {
         return Err(tokens.refusal(Why::Expected(What::Index)));

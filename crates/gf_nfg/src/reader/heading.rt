@@ -1,10 +1,9 @@
 //! The heading of a strategic file: its format, title and players.
 
-ghost use Rattle.std.specs.Prelude.{◌≡◌, ◌≤◌, ◌*◌, ℕ, length};
+ghost use Rattle.std.specs.Prelude.{◌≡◌, ℕ};
 ghost use Rattle.gf_token.specs.Remaining.{StandsBefore};
 ghost use Rattle.gf_nfg.specs.inner.Heard.{Goes};
-ghost use Rattle.gf_nfg.specs.Position.Position.{AfterComment, AfterStrategies};
-ghost use Rattle.gf_nfg.specs.Position.Position.{BeforePlayers};
+ghost use Rattle.gf_nfg.specs.Position.Position.{AfterComment, AfterStrategies, BeforePlayers};
 ghost use Rattle.gf_nfg.specs.Position.Position.{BeforeStrategies, Format};
 ghost use Rattle.gf_nfg.specs.inner.ReaderState.{answer, body_at};
 

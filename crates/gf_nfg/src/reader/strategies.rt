@@ -5,11 +5,8 @@ ghost use Rattle.std.specs.Prelude.{vec_capacity, vec_len};
 ghost use Rattle.gf_token.specs.Next.{is_opening, starts};
 ghost use Rattle.gf_token.specs.Offered.{positive};
 ghost use Rattle.gf_token.specs.Remaining.{StandsBefore};
-ghost use Rattle.gf_token.specs.declared.fault.What.TheVariants as what;
-ghost use Rattle.gf_token.specs.declared.fault.Why.TheVariants.{Memory};
 ghost use Rattle.gf_nfg.specs.inner.Heard.{Goes};
-ghost use Rattle.gf_nfg.specs.Position.Position.{AfterStrategies, BeforeList};
-ghost use Rattle.gf_nfg.specs.Position.Position.{BeforeStrategies};
+ghost use Rattle.gf_nfg.specs.Position.Position.{AfterStrategies, BeforeList, BeforeStrategies};
 ghost use Rattle.gf_nfg.specs.Position.Position.{Counts, FirstStrategies, InList};
 ghost use Rattle.gf_nfg.specs.inner.ReaderState.{HasMore, answer, settling};
 
@@ -40,7 +37,7 @@ impl<'a> Reader<'a> {
         ensures counted { OnOk result (HasMore 1 self.old.heading self.new.heading) }
 
         // Memory is refused only if there was no room.
-        ensures full { IfErr result (λ f. f.why ≡ Memory
+        ensures full { IfErr result (λ f. f.why ≡ Why.Memory
             → vec_capacity self.old.heading.counts ≤ vec_len self.old.heading.counts) }
     {
         let Some(profiles) = self.heading.profiles.times(strategies) else {
@@ -56,11 +53,11 @@ impl<'a> Reader<'a> {
     /// Reads a count that is due.
     #[tactic(auto, using(gf_token::proofs::Offered::index_answers))]
     fn count(&mut self, due: What) -> Result<(), Fault>
-        ensures first { (left : ℕ) → 0 < left → due ≡ what.Strategies
+        ensures first { (left : ℕ) → 0 < left → due ≡ What.Strategies
             → starts is_opening self.old.tokens.ahead ≡ false
             → Goes (answer (FirstStrategies left) self.old) result
             (answer (Counts (left - 1)) self.new) }
-        ensures later { (left : ℕ) → 0 < left → due ≡ what.Index
+        ensures later { (left : ℕ) → 0 < left → due ≡ What.Index
             → Goes (answer (Counts left) self.old) result (answer (Counts (left - 1)) self.new) }
         ensures counted { OnOk result (HasMore 1 self.old.heading self.new.heading) }
     {

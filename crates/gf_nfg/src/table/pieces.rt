@@ -1,7 +1,6 @@
 //! Pieces of a list that is cut at certain ends.
 
-ghost use Rattle.std.specs.Prelude.{◌≡◌, ◌-◌, ◌<◌, ◌≤◌, Some, drop};
-ghost use Rattle.std.specs.Prelude.{length, slice_get, slice_index, take};
+ghost use Rattle.std.specs.Prelude.{◌≡◌, ◌-◌, ◌<◌, Some, length, slice_get, slice_index};
 ghost use Rattle.gf_nfg.specs.TableParts.{RisesTo, pieces, start_of};
 
 use std::ops::Range;

@@ -1,7 +1,6 @@
 //! The canonical text of a strategic file, and of a table.
 
-ghost use Rattle.std.specs.Prelude.{◌≡◌, ◌++◌, [], List, ℕ, IfErr, IfOk, map};
-ghost use Rattle.gf_token.specs.declared.fault.Why.TheVariants.{Memory};
+ghost use Rattle.std.specs.Prelude.{◌≡◌, ◌++◌, [], IfErr, IfOk, map};
 ghost use Rattle.gf_nfg.specs.Judgement.{IsJudged};
 ghost use Rattle.gf_nfg.specs.Limit.{IsWithinLimit};
 ghost use Rattle.gf_nfg.specs.NamedBy.{named_by};
@@ -45,7 +44,7 @@ pub fn canonical_nfg(alloc: Global, input: &[u8], named: bool) -> Result<TextPie
         × (text.rest ≡ table_text (named_by named t))) }
     ensures ungiven { IfOk result IsUngiven }
     ensures only { IfErr result (λ fault. (t : Table) → SpellsTable input.now t → IsWithinLimit t
-        → fault.why ≡ Memory) }
+        → fault.why ≡ Why.Memory) }
     ensures judged { IfErr result (λ fault. IsJudged fault.why input.now fault.span) }
 {
     let mut text = Text::new(alloc, input.len(), named);

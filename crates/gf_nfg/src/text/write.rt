@@ -1,15 +1,13 @@
 //! The canonical text of a table: Gambit's strategic format in payoff version, laid out by this
 //! project's profile.
 
-ghost use Rattle.std.specs.Prelude.{◌≡◌, ◌<◌, ◌++◌, [], OnErr, OnOk, if◌then◌else◌, length};
-ghost use Rattle.std.specs.Prelude.{map};
+ghost use Rattle.std.specs.Prelude.{◌≡◌, ◌<◌, ◌++◌, [], OnErr, OnOk, if◌then◌else◌, map};
 ghost use Rattle.gf_token.specs.Label.{label_of};
 ghost use Rattle.gf_nfg.specs.Spellable.{IsSpellable};
 ghost use Rattle.gf_nfg.specs.Table.{IsTable};
 ghost use Rattle.gf_nfg.specs.TableText.{SpellsTable, list_text, quoted, table_text};
-ghost use Rattle.gf_nfg.specs.inner.TextParts.{ending_text, front_text};
+ghost use Rattle.gf_nfg.specs.inner.TextParts.{ending_text, front_text, heading_text, names_by};
 ghost use Rattle.gf_token.specs.TextLayout.{Keeps};
-ghost use Rattle.gf_nfg.specs.inner.TextParts.{heading_text, names_by};
 
 use crate::table::Table;
 use crate::table::names::Names;

@@ -7,7 +7,7 @@ use Common.{Reader, Result, answer, length, lexeme, Fails, Fault, arith, heard, 
 use Common.{Span, Text, Told, false, refl, Err, sym, ◌-◌, ◌<◌, ◌∙◌, ◌∷◌, ◌≡◌, at, Ok, [], ap, p, ℕ}
 use Rattle.gf_nfg.proofs.lemmas.places.Judged.{carried, lacks_memory}
 pub use Rattle.gf_token.proofs.Offered.{goes_back, fails_back as ends_back}
-use Rattle.gf_nfg.specs.declared.receive.Version.TheVariants as version
+use Rattle.gf_nfg.specs.declared.receive.Version.{Version}
 
 -- ---- answers carried back
 
@@ -68,7 +68,7 @@ memory_after q r stands is = lacks_memory stands is (at q (content_in r.heading)
 -- the end stands after all that was told
 pub all_told : {A T : Type 0} (holds : T → Told → Type 0) (r : Result A Fault) (t : Told)
     {before after : Answer} {h : Heading} {to : T}
-    → t.heading ≡ h → (t.version ≡ version.Payoffs → t.numbers ≡ []) → holds to t → before ≡ after
+    → t.heading ≡ h → (t.version ≡ Version.Payoffs → t.numbers ≡ []) → holds to t → before ≡ after
     → MatchResult r (λ _. after.machine ≡ Ok (content_told t)) (λ f. Fails f after)
     → MatchResult r (λ _. HasToldAll holds before h to) (λ f. Fails f before)
 all_told holds (Ok x) t same unnumbered holding goes whole = record {

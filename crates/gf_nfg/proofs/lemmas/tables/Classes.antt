@@ -1,9 +1,8 @@
 -- Places in classes that are merged, and the rows at them.
 use Rattle.gf_nfg.proofs.Common
-use Common.{slice_get-get_or, range_with_len}
-use Common.{slice_get-map, get_or_past, slice_get, ShareRows, AreShared}
-use Common.{cases_lt, LeadBack, length, get_or, all_at, arith}
-use Common.{Ratio, List, take, Some, sym, ◌≡◌, ◌++◌, ◌+◌, ◌<◌, ◌∙◌, ℕ, []}
+use Common.{slice_get-get_or, range_with_len, slice_get-map, get_or_past, slice_get, ShareRows}
+use Common.{AreShared, cases_lt, LeadBack, length, get_or, all_at, arith, Ratio, List, take, Some}
+use Common.{sym, ◌≡◌, ◌++◌, ◌+◌, ◌<◌, ◌∙◌, ℕ, []}
 use Rattle.std.proofs.lemmas.List.{get_or_append_left, get_or-append-add}
 use Rattle.std.proofs.lemmas.List.FromFn.{get_or-range_with_len, length-range_with_len}
 use Rattle.gf_nfg.proofs.lemmas.tables.Agreement.{same_more}

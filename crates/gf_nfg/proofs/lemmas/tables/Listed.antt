@@ -8,7 +8,6 @@ use Common.{length, IsTrue, subst, arith, Ratio, Table, Names, ◌++◌, rows, S
 use Common.{drop, ◌≡◌, ◌<◌, ◌+◌, ◌∷◌, sym, ◌∙◌, ◌↔◌, [], ap, ℕ}
 use Rattle.gf_nfg.specs.inner.ListedTable.{IsListed, IsListing, listed}
 use Rattle.gf_nfg.specs.declared.listed.Body.{Body}
-use Rattle.gf_nfg.specs.declared.listed.Body.TheVariants.{InTurn}
 use Rattle.gf_nfg.specs.declared.listed.Listing.{Listing}
 use Rattle.gf_nfg.specs.declared.comparison.Comparison.{Comparison}
 use Rattle.gf_nfg.proofs.lemmas.tables.Lists.{joined, rows_again, rows_in_turn}
@@ -36,7 +35,7 @@ module _ (bytes : List ℕ) (heading : Heading) (l : Listing)
   told = content_with heading h.payoffs h.numbers
 
   abbrev body : Names → Body
-  body names = InTurn names l.whole l.kept.payoffs
+  body names = Body.InTurn names l.whole l.kept.payoffs
 
   none_chosen : l.kept.numbers.items ≡ [] → told.choices ≡ []
   none_chosen none = sym h.holding.numbers_are ∙ none

@@ -1,10 +1,10 @@
 -- What was read in full means a table, and a table can be recovered from its parts.
-use Rattle.gf_nfg.proofs.Common.{◌≡◌, ℕ, ◌*◌, ◌<◌, ◌≤◌, List, [], ◌∷◌, length, map, drop, refl, sym}
+use Rattle.gf_nfg.proofs.Common.{◌≡◌, ℕ, ◌<◌, ◌≤◌, List, [], ◌∷◌, length, map, drop, refl, sym}
 use Rattle.gf_nfg.proofs.Common.{◌∙◌, arith, length-take, length-drop, sum, AllByRecursion}
-use Rattle.gf_nfg.proofs.Common.{mul_comm, mul-le-mul_right, length-map, Ratio, all_mapped, product}
+use Rattle.gf_nfg.proofs.Common.{mul_comm, length-map, Ratio, all_mapped, product}
 use Rattle.gf_nfg.proofs.Common.{profile_limit, IsWithinLimit, IsSpellable, IsTable, rows}
 use Rattle.gf_nfg.proofs.Common.{Names, groups, IsHeld, HasRows, Content, names_in, strategies_of}
-use Rattle.gf_nfg.proofs.Common.{rows_by, table_of, HasPayoffs, HasLabels, IsComplete, all_weaker}
+use Rattle.gf_nfg.proofs.Common.{rows_by, table_of, HasPayoffs, HasLabels, IsComplete}
 use Rattle.gf_nfg.proofs.lemmas.tables.Lists.{joined, sum-cons, counts_back, groups-joined}
 use Rattle.gf_nfg.proofs.lemmas.tables.Rows as kept
 

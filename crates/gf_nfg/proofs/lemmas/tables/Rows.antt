@@ -9,7 +9,7 @@ use Common.{mul-suc, all_at, subst, whole, Names, take, drop, rows, zero, List, 
 use Common.{map, ◌≢◌, sym, pos, Vec, ◌≡◌, ◌∷◌, ◌∙◌, ◌<◌, ◌≤◌, ◌+◌, ◌-◌, ◌*◌, ◌/◌, ap, [], ℕ}
 use Rattle.std.proofs.Math.Nat.{mul-div_cancel}
 use Rattle.gf_nfg.proofs.lemmas.tables.Profiles.{length-profiles}
-use Rattle.gf_nfg.proofs.lemmas.tables.Lists.{full_in_turn, get-rows_of, joined, length-rows_of}
+use Rattle.gf_nfg.proofs.lemmas.tables.Lists.{full_in_turn, get-rows_of, length-rows_of}
 use Rattle.gf_nfg.proofs.lemmas.tables.Lists.{product_above_zero, rows_in_turn}
 
 -- entries have their profiles and their rows

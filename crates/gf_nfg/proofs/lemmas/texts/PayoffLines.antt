@@ -1,9 +1,9 @@
 -- The lines of payoffs.
 use Rattle.gf_nfg.proofs.Common
 use Common.{flat_map-append, AllByRecursion, length-append, heading_text, append_assoc, first_line}
-use Common.{lines_text, table_text, line_text, list_text, nat_tests, drop_more, named_by, names_by}
-use Common.{row_text, drop_all, IsTable, lt-ltb, quoted, length, arith, Ratio, Table, Names, whole}
-use Common.{rows, drop, true, Bool, List, refl, map, sym, pos, ◌++◌, ◌≡◌, ◌∷◌, ◌-◌, ◌<◌, ◌≤◌, [], ℕ}
+use Common.{lines_text, table_text, line_text, list_text, nat_tests, named_by, names_by}
+use Common.{row_text, lt-ltb, quoted, length, arith, Ratio, Table, Names}
+use Common.{rows, true, Bool, List, refl, map, sym, ◌++◌, ◌≡◌, ◌∷◌, ◌-◌, ◌<◌, ◌≤◌, [], ℕ}
 use Rattle.gf_nfg.specs.inner.TextParts.{payoffs_text}
 use Rattle.gf_fraction.specs.NumberText.{number_text}
 use Rattle.gf_nfg.proofs.lemmas.tables.Lists.{joined}

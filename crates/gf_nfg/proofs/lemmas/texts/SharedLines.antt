@@ -1,9 +1,9 @@
 -- Lines of rows that profiles share.
 use Rattle.gf_nfg.proofs.Common.{◌≡◌, ℕ, ◌+◌, ◌<◌, List, [], ◌∷◌, ◌++◌, length, map, drop, get_or}
-use Rattle.gf_nfg.proofs.Common.{append_assoc, at_drop_more, refl, arith, take, Some, slice_get, ap}
+use Rattle.gf_nfg.proofs.Common.{append_assoc, at_drop_more, refl, arith, take, Some, slice_get}
 use Rattle.gf_nfg.proofs.Common.{length-append, AllByRecursion, get_or-map, length-map, map-append}
 use Rattle.gf_nfg.proofs.Common.{get_or_from_slice_get, Ratio, line_text, lines_with}
-use Rattle.gf_nfg.proofs.Common.{row_text, lines_text, subst, sym, ◌∙◌}
+use Rattle.gf_nfg.proofs.Common.{row_text, lines_text, subst, sym}
 use Rattle.gf_nfg.proofs.lemmas.tables.LabelLists.{one_taken_at}
 
 -- that of one more row

@@ -1,5 +1,4 @@
-use Rattle.gf_nfg.proofs.Common.{rules, ◌+◌, [], ◌∷◌, label_of, at, with_labels, InList}
-use Rattle.gf_nfg.proofs.Common.{content_in}
+use Rattle.gf_nfg.proofs.Common.{rules, ◌+◌, [], ◌∷◌, label_of, at, with_labels, InList, content_in}
 use Rattle.gf_nfg.proofs.lemmas.places.Judged.{lacks_memory}
 use Rattle.gf_nfg.proofs.lemmas.runs.ReaderSteps.{goes_back}
 use Rattle.gf_nfg.proofs.reader.Reader.list.Goals as goal

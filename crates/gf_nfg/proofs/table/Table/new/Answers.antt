@@ -1,6 +1,5 @@
 use Rattle.gf_nfg.proofs.Common.{arith, ◌∙◌, ap, label_of, length, length-map}
-use Rattle.gf_nfg.proofs.lemmas.tables.Made.{AreKept, clones_are, lists_spelled}
-use Rattle.gf_nfg.proofs.lemmas.tables.Made.{parts_of_labels}
+use Rattle.gf_nfg.proofs.lemmas.tables.Made.{AreKept, clones_are, lists_spelled, parts_of_labels}
 use Rattle.gf_nfg.proofs.lemmas.tables.Rows.{counts_of_lists, some_in_lists}
 use Rattle.gf_nfg.proofs.table.Table.new.Goals as goal
 
