@@ -45,30 +45,30 @@ abbrev pub groups : {A : Type 0} → List ℕ → List A → List (List A)
 groups [] items = []
 groups (size ∷ sizes) items = take size items ∷ groups sizes (drop size items)
 
--- a table except for its payoffs
-pub record Names : Type 0 where
+-- a table without its payoffs
+pub record Frame : Type 0 where
   pub title : List ℕ
   pub comment : List ℕ
   pub players : List (List ℕ)
   pub strategies : List (List (List ℕ))
 
 -- the strategies of the player at this place
-abbrev pub own_of : Names → ℕ → List (List ℕ)
-own_of names at = get_or names.strategies at []
+abbrev pub own_of : Frame → ℕ → List (List ℕ)
+own_of frame at = get_or frame.strategies at []
 
--- the heading is the title and the comment
-abbrev pub names_of : List (List ℕ) → List (List ℕ) → List (List (List ℕ)) → Names
-names_of heading players strategies = record {
-  title = unwrap_or (slice_get heading 0) [];
-  comment = unwrap_or (slice_get heading 1) [];
+-- with a list of the title and the comment
+abbrev pub frame_of : List (List ℕ) → List (List ℕ) → List (List (List ℕ)) → Frame
+frame_of title_and_comment players strategies = record {
+  title = unwrap_or (slice_get title_and_comment 0) [];
+  comment = unwrap_or (slice_get title_and_comment 1) [];
   players = players;
   strategies = strategies;
 }
 
 -- a title and a comment, and a list of strategies for each player
-abbrev pub AreNames : List (List ℕ) → List (List ℕ) → List (List (List ℕ)) → Type 0
-AreNames heading players strategies =
-    (length heading ≡ 2) × (length strategies ≡ length players)
+abbrev pub AreFrameParts : List (List ℕ) → List (List ℕ) → List (List (List ℕ)) → Type 0
+AreFrameParts title_and_comment players strategies =
+    (length title_and_comment ≡ 2) × (length strategies ≡ length players)
 
 -- ---- rows
 
@@ -79,14 +79,14 @@ entries_of (profile ∷ profiles) [] = []
 entries_of (profile ∷ profiles) (row ∷ rows) =
     record { profile = profile; payoffs = row } ∷ entries_of profiles rows
 
--- the table with these names, and these rows at the profiles in turn
-abbrev pub table_with : Names → List (List Ratio) → Table
-table_with names rows = record {
-  title = names.title;
-  comment = names.comment;
-  players = names.players;
-  strategies = names.strategies;
-  entries = entries_of (profiles (map length names.strategies)) rows;
+-- the table with this frame, and these rows at the profiles in turn
+abbrev pub table_with : Frame → List (List Ratio) → Table
+table_with frame rows = record {
+  title = frame.title;
+  comment = frame.comment;
+  players = frame.players;
+  strategies = frame.strategies;
+  entries = entries_of (profiles (map length frame.strategies)) rows;
 }
 
 -- nothing for each player
@@ -135,23 +135,23 @@ pub record AreShared (all rows : List (List Ratio)) (numbers : List ℕ) : Type 
   pub rows_are : all ≡ map (λ n. get_or rows n []) numbers
   pub below : AllByRecursion (λ n. n < length rows) numbers
 
--- these are the names and rows of a table that a file within the limit of profiles can hold
-pub record IsHeld (names : Names) (rs : List (List Ratio)) : Type 0 where
-  pub is_table : IsTable (table_with names rs)
-  pub spellable : IsSpellable (table_with names rs)
-  pub within : IsWithinLimit (table_with names rs)
-  pub rows_are : rows (table_with names rs) ≡ rs
+-- these are the frame and the rows of a table that a file within the limit of profiles can hold
+pub record IsHeld (frame : Frame) (rs : List (List Ratio)) : Type 0 where
+  pub is_table : IsTable (table_with frame rs)
+  pub spellable : IsSpellable (table_with frame rs)
+  pub within : IsWithinLimit (table_with frame rs)
+  pub rows_are : rows (table_with frame rs) ≡ rs
 
--- names, and the payoffs of a table with these names in the order of a file
-pub record AreParts (names : Names) (payoffs : List Ratio) : Type 0 where
-  pub one_list_each : length names.strategies ≡ length names.players
-  pub some_strategy : AllByRecursion (λ own. 0 < length own) names.strategies
-  pub within : product (map length names.strategies) ≤ profile_limit
+-- a frame, and the payoffs of a table with this frame in the order of a file
+pub record AreParts (frame : Frame) (payoffs : List Ratio) : Type 0 where
+  pub one_list_each : length frame.strategies ≡ length frame.players
+  pub some_strategy : AllByRecursion (λ own. 0 < length own) frame.strategies
+  pub within : product (map length frame.strategies) ≤ profile_limit
   pub one_row_each : length payoffs
-      ≡ product (map length names.strategies) * length names.players
+      ≡ product (map length frame.strategies) * length frame.players
   pub fractions : AllByRecursion IsFraction payoffs
-  pub spelled : AreSpellings (names.title ∷ names.comment
-      ∷ (names.players ++ flat_map (λ own. own) names.strategies))
+  pub spelled : AreSpellings (frame.title ∷ frame.comment
+      ∷ (frame.players ++ flat_map (λ own. own) frame.strategies))
 
 -- ---- profiles
 

@@ -18,7 +18,7 @@ use crate::parts::Parts;
 use crate::read::tell_nfg;
 use crate::receive::{Kept, Receive, Version};
 use crate::table::Table;
-use crate::table::agree::{same_heading, same_kept_rows};
+use crate::table::agree::{same_frame, same_kept_rows};
 use crate::table::payoffs_in_turn::{PayoffsInTurn, same_left};
 use gf_fraction::Fraction;
 use gf_token::Fault;
@@ -123,8 +123,8 @@ impl<'t> Comparison<'t> {
             IsTrue answer ↔ SameTable (named_by named t.now) (named_by named u)) }
     {
         if self.version == Version::Payoffs {
-            let names = heading.names(alloc)?;
-            if !same_heading(t.names(), &names, named) {
+            let frame = heading.frame(alloc)?;
+            if !same_frame(t.frame(), &frame, named) {
                 return Ok(false);
             }
             return Ok(self.has_ended());
@@ -149,7 +149,7 @@ fn same_table(
     ensures { IfOk result (λ answer. IsTrue answer
         ↔ SameTable (named_by named t.now) (named_by named other.now)) }
 {
-    if !same_heading(t.names(), other.names(), named) {
+    if !same_frame(t.frame(), other.frame(), named) {
         return Ok(false);
     }
     match t.shared() {

@@ -2,12 +2,12 @@
 
 ghost use Rattle.std.specs.Prelude.{◌≡◌, IfOk};
 ghost use Rattle.gf_nfg.specs.inner.Machine.{nothing};
-ghost use Rattle.gf_nfg.specs.inner.Meaning.{names_in};
+ghost use Rattle.gf_nfg.specs.inner.Meaning.{frame_in};
 ghost use Rattle.gf_nfg.specs.inner.ReaderState.{HasCounts, content_in};
 
 use crate::limit::ProfileCount;
-use crate::table::names::Names;
-use crate::table::strategies::Strategies;
+use crate::table::frame::Frame;
+use crate::table::strategies::StrategyLists;
 use gf_token::Label;
 use std::alloc::{AllocError, Global};
 
@@ -43,23 +43,23 @@ impl<'a> Heading<'a> {
     }
 
     /// The players' strategies, in memory of their own.
-    fn strategies(&self, alloc: Global) -> Result<Strategies, AllocError>
-        ensures { IfOk result (λ lists. lists ≡ (names_in (content_in self.now)).strategies) }
+    fn strategies(&self, alloc: Global) -> Result<StrategyLists, AllocError>
+        ensures { IfOk result (λ lists. lists ≡ (frame_in (content_in self.now)).strategies) }
     {
         if self.labels.is_empty() {
-            Strategies::counted(alloc, &self.counts)
+            StrategyLists::counted(alloc, &self.counts)
         } else {
-            Strategies::grouped(alloc, &self.counts, &self.labels)
+            StrategyLists::grouped(alloc, &self.counts, &self.labels)
         }
     }
 
     /// The title, the comment, the players and their strategies, in memory of their own.
     #[tactic(auto, using(crate::proofs::lemmas::tables::Strategies::as_many_lists))]
-    pub(crate) fn names(&self, alloc: Global) -> Result<Names, AllocError>
+    pub(crate) fn frame(&self, alloc: Global) -> Result<Frame, AllocError>
         requires { HasCounts self.now }
-        ensures { IfOk result (λ names. names ≡ names_in (content_in self.now)) }
+        ensures { IfOk result (λ frame. frame ≡ frame_in (content_in self.now)) }
     {
         let strategies = self.strategies(alloc)?;
-        Names::new(alloc, self.title, self.comment, &self.players, strategies)
+        Frame::new(alloc, self.title, self.comment, &self.players, strategies)
     }
 }

@@ -13,7 +13,7 @@ use crate::heading::Heading;
 use crate::parts::Parts;
 use crate::receive::{Kept, Receive, Version};
 use crate::table::Table;
-use crate::table::names::Names;
+use crate::table::frame::Frame;
 use crate::table::payoffs_in_turn::PayoffsInTurn;
 use crate::table::rows::Rows;
 use gf_fraction::Fraction;
@@ -113,7 +113,7 @@ impl<'a> Receive<'a> for Listing {
 #[derive(Drop)]
 enum Body {
     /// Those of the profiles in turn: whole numbers, and then others.
-    InTurn(Names, Vec<i64>, Vec<Fraction>),
+    InTurn(Frame, Vec<i64>, Vec<Fraction>),
     /// Rows that profiles share.
     Shared(Table),
 }
@@ -149,9 +149,9 @@ impl ListedTable {
     {
         let Listing { whole, kept, .. } = listing;
         if kept.numbers.is_empty() {
-            let names = heading.names(alloc)?;
+            let frame = heading.frame(alloc)?;
             return Ok(ListedTable {
-                body: Body::InTurn(names, whole, kept.payoffs),
+                body: Body::InTurn(frame, whole, kept.payoffs),
             });
         }
         let table = (Parts { heading, kept }).into_table(alloc)?;
@@ -161,9 +161,9 @@ impl ListedTable {
     }
 
     /// Everything except the payoffs.
-    pub(crate) fn names(&self) -> &Names
+    pub(crate) fn frame(&self) -> &Frame
         ensures is_table { IsTable self.now }
-        ensures names { result.now ≡ record {
+        ensures frame { result.now ≡ record {
           title = self.now.title;
           comment = self.now.comment;
           players = self.now.players;
@@ -171,8 +171,8 @@ impl ListedTable {
         } }
     {
         match &self.body {
-            Body::InTurn(names, _, _) => names,
-            Body::Shared(table) => table.names(),
+            Body::InTurn(frame, _, _) => frame,
+            Body::Shared(table) => table.frame(),
         }
     }
 

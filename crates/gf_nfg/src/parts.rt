@@ -45,8 +45,8 @@ impl<'a> Parts<'a> {
         requires { (bytes : List ℕ) × MeansTable bytes (content_of self) }
         ensures { IfOk result (λ t. t ≡ table_of (content_of self.entry)) }
     {
-        let names = self.heading.names(alloc)?;
+        let frame = self.heading.frame(alloc)?;
         let rows = self.rows(alloc)?;
-        Ok(Table::of_parts(names, rows))
+        Ok(Table::of_parts(frame, rows))
     }
 }

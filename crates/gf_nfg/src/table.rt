@@ -14,11 +14,11 @@ ghost use Rattle.gf_nfg.specs.Table.{IsTable, PaysAt, rows};
 ghost use Rattle.gf_nfg.specs.TableOfParts.{IsTableOf};
 ghost use Rattle.gf_nfg.specs.TableParts.{AreParts, IsHeld, table_with};
 
+use crate::table::frame::Frame;
 use crate::table::labels::Labels;
-use crate::table::names::Names;
 use crate::table::profile::place_of;
 use crate::table::rows::Rows;
-use crate::table::strategies::Strategies;
+use crate::table::strategies::StrategyLists;
 use gf_fraction::Fraction;
 use gf_token::Label;
 use std::alloc::{AllocError, Global};
@@ -26,8 +26,8 @@ use std::marker::Model;
 
 pub(crate) mod agree;
 pub(crate) mod classes;
+pub(crate) mod frame;
 pub(crate) mod labels;
-pub(crate) mod names;
 pub(crate) mod payoffs_in_turn;
 pub(crate) mod pieces;
 pub(crate) mod profile;
@@ -39,7 +39,7 @@ pub(crate) mod strategies;
 /// from 1.
 #[derive(Drop)]
 pub struct Table {
-    names: Names,
+    frame: Frame,
     payoffs: Rows,
 }
 
@@ -49,17 +49,17 @@ impl Model for Table {
 
     ghost Value = { Table };
 
-    ghost view = { λ t. table_with t.names t.payoffs };
+    ghost view = { λ t. table_with t.frame t.payoffs };
 
-    ghost invariant = { λ t. IsHeld t.names t.payoffs };
+    ghost invariant = { λ t. IsHeld t.frame t.payoffs };
 }
 
 /// How many profiles the players of a table with these payoffs have.
-fn profiles_of(names: &Names, payoffs: &[Fraction]) -> u32
-    requires { AreParts names.now payoffs.now }
-    ensures { result ≡ product (map length names.now.strategies) }
+fn profiles_of(frame: &Frame, payoffs: &[Fraction]) -> u32
+    requires { AreParts frame.now payoffs.now }
+    ensures { result ≡ product (map length frame.now.strategies) }
 {
-    let players = names.players();
+    let players = frame.players();
     if players == 0 {
         return 1;
     }
@@ -67,12 +67,12 @@ fn profiles_of(names: &Names, payoffs: &[Fraction]) -> u32
 }
 
 impl Table {
-    /// The table of these names, with a row at each profile.
-    pub(crate) fn of_parts(names: Names, payoffs: Rows) -> Table
-        requires { IsHeld names payoffs }
-        ensures { result ≡ table_with names payoffs }
+    /// The table of this frame, with a row at each profile.
+    pub(crate) fn of_parts(frame: Frame, payoffs: Rows) -> Table
+        requires { IsHeld frame payoffs }
+        ensures { result ≡ table_with frame payoffs }
     {
-        Table { names, payoffs }
+        Table { frame, payoffs }
     }
 
     /// The table of these parts. The rows are the payoffs at each profile in the order of a file:
@@ -104,10 +104,10 @@ impl Table {
             (map label_of players.now) (map (λ own. map label_of own.items) strategies.now)
             rows.now) }
     {
-        let strategies = Strategies::of_lists(alloc, strategies)?;
-        let names = Names::new(alloc, title, comment, players, strategies)?;
+        let strategies = StrategyLists::of_lists(alloc, strategies)?;
+        let frame = Frame::new(alloc, title, comment, players, strategies)?;
         let rows = Vec::from_clones(alloc, rows)?;
-        Table::in_turn(alloc, names, rows)
+        Table::in_turn(alloc, frame, rows)
     }
 
     /// The table of these parts, as `new` makes it. The payoffs are not copied, nor are the labels
@@ -132,35 +132,35 @@ impl Table {
         ensures { IfOk result (λ t. IsTableOf t (label_of title.entry) (label_of comment.entry)
             (map label_of players.now) strategies.items rows.items) }
     {
-        let strategies = Strategies::of_labels(alloc, strategies)?;
-        let names = Names::new(alloc, title, comment, players, strategies)?;
-        Table::in_turn(alloc, names, rows)
+        let strategies = StrategyLists::of_labels(alloc, strategies)?;
+        let frame = Frame::new(alloc, title, comment, players, strategies)?;
+        Table::in_turn(alloc, frame, rows)
     }
 
-    /// The table of these names and of payoffs in the order of a file.
+    /// The table of this frame and of payoffs in the order of a file.
     #[tactic(auto, using(crate::proofs::lemmas::tables::Made::made_in_turn))]
-    fn in_turn(alloc: Global, names: Names, rows: Vec<Fraction>) -> Result<Table, AllocError>
-        requires { AreParts names rows.items }
-        ensures { IfOk result (λ t. IsTableOf t names.title names.comment names.players
-            names.strategies rows.items) }
+    fn in_turn(alloc: Global, frame: Frame, rows: Vec<Fraction>) -> Result<Table, AllocError>
+        requires { AreParts frame rows.items }
+        ensures { IfOk result (λ t. IsTableOf t frame.title frame.comment frame.players
+            frame.strategies rows.items) }
     {
-        let profiles = profiles_of(&names, &rows);
-        let payoffs = Rows::new(alloc, names.players(), profiles, rows, Vec::new(alloc))?;
-        Ok(Table::of_parts(names, payoffs))
+        let profiles = profiles_of(&frame, &rows);
+        let payoffs = Rows::new(alloc, frame.players(), profiles, rows, Vec::new(alloc))?;
+        Ok(Table::of_parts(frame, payoffs))
     }
 
     /// Everything except the payoffs.
-    pub(crate) fn names(&self) -> &Names
+    pub(crate) fn frame(&self) -> &Frame
         ensures is_table { IsTable self.now }
         ensures spellable { IsSpellable self.now }
-        ensures names { result.now ≡ record {
+        ensures frame { result.now ≡ record {
           title = self.now.title;
           comment = self.now.comment;
           players = self.now.players;
           strategies = self.now.strategies;
         } }
     {
-        &self.names
+        &self.frame
     }
 
     /// The payoffs at each profile.
@@ -171,9 +171,9 @@ impl Table {
     }
 
     /// Everything except the payoffs, and the payoffs at each profile.
-    pub(crate) fn into_parts(self) -> (Names, Rows)
+    pub(crate) fn into_parts(self) -> (Frame, Rows)
         ensures is_table { IsTable self }
-        ensures names { result.0 ≡ record {
+        ensures frame { result.0 ≡ record {
           title = self.title;
           comment = self.comment;
           players = self.players;
@@ -181,8 +181,8 @@ impl Table {
         } }
         ensures rows { result.1 ≡ rows self }
     {
-        let Table { names, payoffs } = self;
-        (names, payoffs)
+        let Table { frame, payoffs } = self;
+        (frame, payoffs)
     }
 
     /// The title.
@@ -190,7 +190,7 @@ impl Table {
     pub fn title(&self) -> Label<'_>
         ensures { label_of result ≡ self.now.title }
     {
-        self.names.title()
+        self.frame.title()
     }
 
     /// The comment, which is empty if the file has none.
@@ -198,14 +198,14 @@ impl Table {
     pub fn comment(&self) -> Label<'_>
         ensures { label_of result ≡ self.now.comment }
     {
-        self.names.comment()
+        self.frame.comment()
     }
 
     /// How many players there are, or 4,294,967,295 if there are more.
     pub fn players(&self) -> u32
         ensures { result ≡ min (length self.now.players) 4294967295 }
     {
-        self.names.players().min(u32::MAX as usize) as u32
+        self.frame.players().min(u32::MAX as usize) as u32
     }
 
     /// The name of player `i`, or `None` if there is no such player.
@@ -214,10 +214,10 @@ impl Table {
         ensures { option_map label_of result ≡ at_position self.now.players i }
     {
         let i = i as usize;
-        if i == 0 || i > self.names.players() {
+        if i == 0 || i > self.frame.players() {
             return None;
         }
-        Some(self.names.player(i - 1))
+        Some(self.frame.player(i - 1))
     }
 
     /// How many strategies player `i` has, or `None` if there is no such player.
@@ -226,10 +226,10 @@ impl Table {
         ensures { result ≡ option_map length (at_position self.now.strategies i) }
     {
         let i = i as usize;
-        if i == 0 || i > self.names.players() {
+        if i == 0 || i > self.frame.players() {
             return None;
         }
-        Some(self.names.strategies(i - 1) as u32)
+        Some(self.frame.strategies(i - 1) as u32)
     }
 
     /// The label of strategy `s` of player `i`, or `None` if there is no such strategy.
@@ -238,10 +238,10 @@ impl Table {
             ≡ option_and_then (λ own. at_position own s) (at_position self.now.strategies i) }
     {
         let (i, s) = (i as usize, s as usize);
-        if i == 0 || i > self.names.players() || s == 0 || s > self.names.strategies(i - 1) {
+        if i == 0 || i > self.frame.players() || s == 0 || s > self.frame.strategies(i - 1) {
             return None;
         }
-        Some(self.names.strategy(i - 1, s - 1))
+        Some(self.frame.strategy(i - 1, s - 1))
     }
 
     /// How many profiles there are: at most 1,048,576.
@@ -267,7 +267,7 @@ impl Table {
             (¬ (IsProfile (map length self.now.strategies) profile.now))
             (λ row. PaysAt self.now profile.now row.now) }
     {
-        match place_of(&self.names, profile) {
+        match place_of(&self.frame, profile) {
             Some(place) => Some(self.payoffs.row(place)),
             None => None,
         }

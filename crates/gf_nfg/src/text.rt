@@ -2,9 +2,9 @@
 
 ghost use Rattle.std.specs.Prelude.{◌≡◌, ◌++◌, ◌∷◌, [], List, IfOk, OnOk};
 ghost use Rattle.gf_fraction.specs.Ratio.{Ratio};
-ghost use Rattle.gf_nfg.specs.inner.Meaning.{names_in};
+ghost use Rattle.gf_nfg.specs.inner.Meaning.{frame_in};
 ghost use Rattle.gf_nfg.specs.inner.ReaderState.{HasCounts, content_in};
-ghost use Rattle.gf_nfg.specs.inner.TextParts.{heading_text, names_by, payoffs_text};
+ghost use Rattle.gf_nfg.specs.inner.TextParts.{heading_text, frame_by, payoffs_text};
 
 use crate::heading::Heading;
 use crate::receive::{Kept, Receive, Version};
@@ -21,7 +21,7 @@ pub(crate) mod write;
 
 /// The text of a file that is being told.
 #[derive(Drop)]
-pub(crate) struct Text {
+pub(crate) struct ToldText {
     pub(crate) text: Vec<u8>,
     /// How many bytes it is likely to have.
     room: usize,
@@ -36,14 +36,14 @@ pub(crate) struct Text {
     pub(crate) kept: Kept,
 }
 
-impl Text {
+impl ToldText {
     /// Nothing yet, of a text that is likely to have this many bytes.
-    pub(crate) fn new(alloc: Global, room: usize, named: bool) -> Text
+    pub(crate) fn new(alloc: Global, room: usize, named: bool) -> ToldText
         ensures text { result.text.items ≡ [] }
         ensures named { result.named ≡ named }
         ensures kept { (result.kept.payoffs.items ≡ []) × (result.kept.numbers.items ≡ []) }
     {
-        Text {
+        ToldText {
             text: Vec::new(alloc),
             room,
             named,
@@ -59,10 +59,10 @@ impl Text {
 fn write_told(heading: &Heading<'_>, named: bool, out: &mut Vec<u8>) -> Result<(), AllocError>
     requires { HasCounts heading.now }
     ensures { OnOk result (out.new.items ≡ out.old.items
-        ++ heading_text (names_by named (names_in (content_in heading.now)))) }
+        ++ heading_text (frame_by named (frame_in (content_in heading.now)))) }
 {
-    let names = heading.names(*out.allocator())?;
-    write_heading(&names, named, out)
+    let frame = heading.frame(*out.allocator())?;
+    write_heading(&frame, named, out)
 }
 
 /// Appends a payoff, and a space or the line feed that ends its line. Lines have `width` payoffs,
@@ -89,7 +89,7 @@ fn write_payoff(
     }
 }
 
-impl<'a> Receive<'a> for Text {
+impl<'a> Receive<'a> for ToldText {
     ghost use Rattle.std.specs.Prelude.{◌≡◌, ◌≤◌, [], ⊤, vec_capacity, vec_len};
     ghost use Rattle.gf_nfg.specs.inner.ToldText.{HasText};
 

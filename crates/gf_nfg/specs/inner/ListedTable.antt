@@ -19,15 +19,15 @@ pub record IsListing (l : Listing) (told : Told) : Type 0 where
 
 -- the table that is kept
 abbrev pub listed : Body → Table
-listed (Body.InTurn names numbers others) = table_with names
-    (rows_of (length names.players) (product (map length names.strategies))
+listed (Body.InTurn frame numbers others) = table_with frame
+    (rows_of (length frame.players) (product (map length frame.strategies))
     (payoffs_in numbers.items others.items))
 listed (Body.Shared t) = t
 
 -- payoffs in turn are those of the table
 abbrev pub IsFull : Body → Type 0
-IsFull (Body.InTurn names numbers others) =
-    flat_map (λ row. row) (rows (listed (Body.InTurn names numbers others)))
+IsFull (Body.InTurn frame numbers others) =
+    flat_map (λ row. row) (rows (listed (Body.InTurn frame numbers others)))
     ≡ payoffs_in numbers.items others.items
 IsFull (Body.Shared t) = ⊤
 

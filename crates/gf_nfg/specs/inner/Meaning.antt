@@ -5,7 +5,7 @@ use Rattle.gf_fraction.specs.Ratio.{Ratio}
 use Rattle.gf_nfg.specs.Profiles.{product}
 use Rattle.gf_nfg.specs.Table.{Table}
 use Rattle.gf_nfg.specs.Sentence.{counted_labels}
-use Rattle.gf_nfg.specs.TableParts.{Names, groups, kept_rows, table_with}
+use Rattle.gf_nfg.specs.TableParts.{Frame, groups, kept_rows, table_with}
 use Rattle.gf_nfg.specs.inner.Machine.{Content}
 
 -- for this many strategies of each player, and their labels in turn, or none if there are only
@@ -14,8 +14,8 @@ abbrev pub strategies_of : List ℕ → List (List ℕ) → List (List (List ℕ
 strategies_of counts [] = map counted_labels counts
 strategies_of counts (label ∷ labels) = groups counts (label ∷ labels)
 
-abbrev pub names_in : Content → Names
-names_in c = record {
+abbrev pub frame_in : Content → Frame
+frame_in c = record {
   title = c.title;
   comment = c.comment;
   players = c.players;
@@ -27,7 +27,7 @@ abbrev pub rows_by : Content → List ℕ → List (List Ratio)
 rows_by c choices = kept_rows (length c.players) c.profiles c.payoffs choices
 
 abbrev pub table_of : Content → Table
-table_of c = table_with (names_in c) (rows_by c c.choices)
+table_of c = table_with (frame_in c) (rows_by c c.choices)
 
 -- the payoffs are rows of the profiles, or of outcomes of which one is chosen for each profile
 abbrev pub HasPayoffs : Content → List ℕ → Type 0

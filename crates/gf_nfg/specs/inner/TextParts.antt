@@ -4,12 +4,12 @@ use Rattle.std.specs.Prelude.{codes, drop, get_or, if◌then◌else◌, nat_lt}
 use Rattle.std.specs.List.{flat_map}
 use Rattle.gf_fraction.specs.Ratio.{Ratio}
 use Rattle.gf_fraction.specs.NumberText.{number_text}
-use Rattle.gf_nfg.specs.TableParts.{Names}
+use Rattle.gf_nfg.specs.TableParts.{Frame}
 use Rattle.gf_nfg.specs.TableText.{lines_text, list_text, quoted, spaced}
 
 -- title and comment are empty if it is not named
-abbrev pub names_by : Bool → Names → Names
-names_by named n = record n {
+abbrev pub frame_by : Bool → Frame → Frame
+frame_by named n = record n {
   title = if named then n.title else [];
   comment = if named then n.comment else [];
 }
@@ -35,24 +35,24 @@ payoffs_text width left (payoff ∷ payoffs) = number_text payoff
     else 10 ∷ payoffs_text width width payoffs)
 
 -- the format, the title and the players
-abbrev pub first_line : Names → List ℕ
-first_line names = spaced (codes "NFG" ∷ codes "1" ∷ codes "R" ∷ quoted names.title
-    ∷ list_text (map quoted names.players) ∷ [])
+abbrev pub first_line : Frame → List ℕ
+first_line frame = spaced (codes "NFG" ∷ codes "1" ∷ codes "R" ∷ quoted frame.title
+    ∷ list_text (map quoted frame.players) ∷ [])
 
 -- what stands before the strategies
-abbrev pub front_text : Names → List ℕ
-front_text names = first_line names ++ 10 ∷ codes "{ "
+abbrev pub front_text : Frame → List ℕ
+front_text frame = first_line frame ++ 10 ∷ codes "{ "
 
 -- what stands between the strategies and the payoffs
-abbrev pub ending_text : Names → List ℕ
-ending_text names = codes "}" ++ 10 ∷ (quoted names.comment ++ 10 ∷ 10 ∷ [])
+abbrev pub ending_text : Frame → List ℕ
+ending_text frame = codes "}" ++ 10 ∷ (quoted frame.comment ++ 10 ∷ 10 ∷ [])
 
 -- the lines before the payoffs
-abbrev pub heading_text : Names → List ℕ
-heading_text names = lines_text
-    (first_line names
-    ∷ list_text (map (λ own. list_text (map quoted own)) names.strategies)
-    ∷ quoted names.comment
+abbrev pub heading_text : Frame → List ℕ
+heading_text frame = lines_text
+    (first_line frame
+    ∷ list_text (map (λ own. list_text (map quoted own)) frame.strategies)
+    ∷ quoted frame.comment
     ∷ []
     ∷ [])
 

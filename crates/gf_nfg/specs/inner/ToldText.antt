@@ -1,12 +1,12 @@
 -- What a text that is being written has of a file that is being told.
 use Rattle.std.specs.Prelude.{◌≡◌, ℕ, zero, suc, Bool, List, ◌∷◌, ◌++◌, length}
 use Rattle.gf_fraction.specs.Ratio.{Ratio}
-use Rattle.gf_nfg.specs.inner.Meaning.{names_in}
+use Rattle.gf_nfg.specs.inner.Meaning.{frame_in}
 use Rattle.gf_nfg.specs.inner.ReaderState.{content_in}
-use Rattle.gf_nfg.specs.inner.TextParts.{heading_text, names_by, payoffs_text}
+use Rattle.gf_nfg.specs.inner.TextParts.{heading_text, frame_by, payoffs_text}
 use Rattle.gf_nfg.specs.inner.Told.{Told}
 use Rattle.gf_nfg.specs.declared.receive.Version.{Version}
-use Rattle.gf_nfg.specs.declared.text.Text.{Text}
+use Rattle.gf_nfg.specs.declared.text.ToldText.{ToldText}
 
 -- the lines of payoffs, so many in each; without players the only line is empty
 abbrev pub laid_lines : ℕ → List Ratio → List ℕ
@@ -19,10 +19,10 @@ pub record AreLaid (width left : ℕ) (heading text : List ℕ) (payoffs : List 
       → text ++ payoffs_text width left more ≡ heading ++ laid_lines width (payoffs ++ more)
 
 abbrev pub told_text : Bool → Told → List ℕ
-told_text named told = heading_text (names_by named (names_in (content_in told.heading)))
+told_text named told = heading_text (frame_by named (frame_in (content_in told.heading)))
 
 -- the text has the heading of what was told, and its payoffs, or else they are kept
-pub record HasText (named : Bool) (t : Text) (told : Told) : Type 0 where
+pub record HasText (named : Bool) (t : ToldText) (told : Told) : Type 0 where
   pub named_is : t.named ≡ named
   pub version_is : t.version ≡ told.version
   pub width_is : t.width ≡ length (content_in told.heading).players

@@ -3,11 +3,11 @@
 ghost use Rattle.std.specs.Prelude.{◌≡◌, ◌↔◌, [], IfOk, IsTrue, if◌then◌else◌};
 ghost use Rattle.gf_token.specs.Label.{label_of};
 ghost use Rattle.gf_nfg.specs.SameTable.{SamePlay};
-ghost use Rattle.gf_nfg.specs.inner.TextParts.{names_by};
+ghost use Rattle.gf_nfg.specs.inner.TextParts.{frame_by};
 
 use crate::table::Table;
 use crate::table::classes::Classes;
-use crate::table::names::Names;
+use crate::table::frame::Frame;
 use crate::table::rows::Rows;
 use gf_fraction::Fraction;
 use gf_token::Label;
@@ -22,8 +22,8 @@ fn same_label(a: Label<'_>, b: Label<'_>, counts: bool) -> bool
 }
 
 /// Whether both are the same; title and comment count if it is `named`.
-pub(crate) fn same_heading(a: &Names, b: &Names, named: bool) -> bool
-    ensures { IsTrue result ↔ (names_by named a.now ≡ names_by named b.now) }
+pub(crate) fn same_frame(a: &Frame, b: &Frame, named: bool) -> bool
+    ensures { IsTrue result ↔ (frame_by named a.now ≡ frame_by named b.now) }
 {
     same_label(a.title(), b.title(), named)
         && same_label(a.comment(), b.comment(), named)
@@ -89,7 +89,7 @@ impl Table {
     pub fn play_agrees(&self, o: &Table) -> bool
         ensures { IsTrue result ↔ SamePlay self.now o.now }
     {
-        self.names().plays_as(o.names()) && same_rows(self.rows(), o.rows())
+        self.frame().plays_as(o.frame()) && same_rows(self.rows(), o.rows())
     }
 
     /// What `play_agrees` returns, in time that grows with what both tables keep: the payoffs of
@@ -103,6 +103,6 @@ impl Table {
     pub fn plays_alike(&self, alloc: Global, o: &Table) -> Result<bool, AllocError>
         ensures { IfOk result (λ answer. IsTrue answer ↔ SamePlay self.now o.now) }
     {
-        Ok(self.names().plays_as(o.names()) && same_kept_rows(alloc, self.rows(), o.rows())?)
+        Ok(self.frame().plays_as(o.frame()) && same_kept_rows(alloc, self.rows(), o.rows())?)
     }
 }

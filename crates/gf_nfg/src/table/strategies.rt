@@ -16,14 +16,14 @@ use std::marker::Model;
 
 /// A list of labels for each player.
 #[derive(Drop)]
-pub(crate) struct Strategies {
+pub(crate) struct StrategyLists {
     /// Those of one player after another.
     labels: Labels,
     /// Where each player's end.
     ends: Vec<usize>,
 }
 
-impl Model for Strategies {
+impl Model for StrategyLists {
     ghost use Rattle.std.specs.Prelude.{List, length, ℕ};
     ghost use Rattle.gf_nfg.specs.TableParts.{RisesTo, pieces};
 
@@ -34,12 +34,12 @@ impl Model for Strategies {
     ghost invariant = { λ s. RisesTo (length s.labels) 0 s.ends.items };
 }
 
-impl Strategies {
+impl StrategyLists {
     /// Those of no player.
-    pub(crate) fn new(alloc: Global) -> Strategies
+    pub(crate) fn new(alloc: Global) -> StrategyLists
         ensures { result ≡ [] }
     {
-        Strategies {
+        StrategyLists {
             labels: Labels::new(alloc),
             ends: Vec::new(alloc),
         }
@@ -47,54 +47,54 @@ impl Strategies {
 
     /// These, and those of one more player.
     #[tactic(auto, using(crate::proofs::lemmas::tables::Pieces::one_piece_more))]
-    fn with(self, own: &[Label<'_>]) -> Result<Strategies, AllocError>
+    fn with(self, own: &[Label<'_>]) -> Result<StrategyLists, AllocError>
         ensures { IfOk result (λ all. all ≡ self ++ map label_of own.now ∷ []) }
     {
-        let Strategies {
+        let StrategyLists {
             mut labels,
             mut ends,
         } = self;
         labels.extend(own)?;
         ends.push(labels.len())?;
-        Ok(Strategies { labels, ends })
+        Ok(StrategyLists { labels, ends })
     }
 
     /// These, and those of one more player: the labels "1" to this count.
     #[tactic(auto, using(crate::proofs::lemmas::tables::Pieces::one_piece_more))]
-    fn with_counted(self, count: u32) -> Result<Strategies, AllocError>
+    fn with_counted(self, count: u32) -> Result<StrategyLists, AllocError>
         ensures { IfOk result (λ all. all ≡ self ++ counted_labels count ∷ []) }
     {
-        let Strategies {
+        let StrategyLists {
             mut labels,
             mut ends,
         } = self;
         labels.extend_counted(count)?;
         ends.push(labels.len())?;
-        Ok(Strategies { labels, ends })
+        Ok(StrategyLists { labels, ends })
     }
 
     /// These, and those of one more player. If there are no labels so far, his are not copied.
     #[tactic(auto, using(crate::proofs::lemmas::tables::Pieces::one_piece_more))]
-    fn with_labels(self, own: Labels) -> Result<Strategies, AllocError>
+    fn with_labels(self, own: Labels) -> Result<StrategyLists, AllocError>
         ensures all { IfOk result (λ all. all ≡ self ++ own ∷ []) }
         ensures spelled { OnOk result (AreSpellings own) }
     {
         // Its clause says that they are spelled.
         let _own = own.len();
-        let Strategies { labels, mut ends } = self;
+        let StrategyLists { labels, mut ends } = self;
         let labels = labels.followed_by(own)?;
         ends.push(labels.len())?;
-        Ok(Strategies { labels, ends })
+        Ok(StrategyLists { labels, ends })
     }
 
     /// These lists.
     pub(crate) fn of_lists(
         alloc: Global,
         lists: &[Vec<Label<'_>>],
-    ) -> Result<Strategies, AllocError>
+    ) -> Result<StrategyLists, AllocError>
         ensures { IfOk result (λ all. all ≡ map (λ own. map label_of own.items) lists.now) }
     {
-        let mut all = Strategies::new(alloc);
+        let mut all = StrategyLists::new(alloc);
         for own in lists {
             all = all.with(own)?;
         }
@@ -102,11 +102,11 @@ impl Strategies {
     }
 
     /// These lists. If only one has labels, they are not copied.
-    pub(crate) fn of_labels(alloc: Global, lists: Vec<Labels>) -> Result<Strategies, AllocError>
+    pub(crate) fn of_labels(alloc: Global, lists: Vec<Labels>) -> Result<StrategyLists, AllocError>
         ensures all { IfOk result (λ all. all ≡ lists.items) }
         ensures spelled { OnOk result (AllByRecursion (λ own. AreSpellings own) lists.items) }
     {
-        let mut all = Strategies::new(alloc);
+        let mut all = StrategyLists::new(alloc);
         for own in lists {
             all = all.with_labels(own)?;
         }
@@ -115,10 +115,10 @@ impl Strategies {
 
     /// A count of n stands for the labels "1" to n.
     #[inline(never)]
-    pub(crate) fn counted(alloc: Global, counts: &[u32]) -> Result<Strategies, AllocError>
+    pub(crate) fn counted(alloc: Global, counts: &[u32]) -> Result<StrategyLists, AllocError>
         ensures { IfOk result (λ all. all ≡ map counted_labels counts.now) }
     {
-        let mut all = Strategies::new(alloc);
+        let mut all = StrategyLists::new(alloc);
         for count in counts {
             all = all.with_counted(*count)?;
         }
@@ -132,10 +132,10 @@ impl Strategies {
         alloc: Global,
         counts: &[u32],
         labels: &[Label<'_>],
-    ) -> Result<Strategies, AllocError>
+    ) -> Result<StrategyLists, AllocError>
         ensures { IfOk result (λ all. all ≡ groups counts.now (map label_of labels.now)) }
     {
-        let mut all = Strategies::new(alloc);
+        let mut all = StrategyLists::new(alloc);
         let mut start = 0;
         for count in counts {
             let end = labels.len().min(start + *count as usize);
@@ -147,7 +147,7 @@ impl Strategies {
 
     /// Whether both are the same lists.
     #[tactic(auto, using(crate::proofs::lemmas::tables::Pieces::one_way_cut))]
-    pub(crate) fn is_same(&self, o: &Strategies) -> bool
+    pub(crate) fn is_same(&self, o: &StrategyLists) -> bool
         ensures { IsTrue result ↔ (self.now ≡ o.now) }
     {
         self.ends == o.ends && self.labels.is_same(&o.labels)

@@ -14,7 +14,7 @@ use crate::parts::Parts;
 use crate::read::tell_nfg;
 use crate::receive::Version;
 use crate::table::Table;
-use crate::text::Text;
+use crate::text::ToldText;
 use crate::text::pieces::TextPieces;
 use crate::text::write::write_heading;
 use gf_token::{Fault, Why};
@@ -47,9 +47,9 @@ pub fn canonical_nfg(alloc: Global, input: &[u8], named: bool) -> Result<TextPie
         → fault.why ≡ Why.Memory) }
     ensures judged { IfErr result (λ fault. IsJudged fault.why input.now fault.span) }
 {
-    let mut text = Text::new(alloc, input.len(), named);
+    let mut text = ToldText::new(alloc, input.len(), named);
     let heading = tell_nfg(alloc, input, &mut text)?;
-    let Text {
+    let ToldText {
         text,
         version,
         kept,
@@ -74,11 +74,11 @@ pub fn text_of(alloc: Global, t: Table) -> Result<TextPieces, AllocError>
     ensures rest { IfOk result (λ text. text.rest ≡ table_text t) }
     ensures none { IfOk result (λ text. text.piece ≡ []) }
 {
-    let (names, rows) = t.into_parts();
+    let (frame, rows) = t.into_parts();
     if rows.shared().is_none() {
-        return TextPieces::of_table(alloc, names, rows);
+        return TextPieces::of_table(alloc, frame, rows);
     }
     let mut text = Vec::new(alloc);
-    write_heading(&names, true, &mut text)?;
+    write_heading(&frame, true, &mut text)?;
     TextPieces::with_rows(alloc, text, rows)
 }

@@ -5,7 +5,7 @@ ghost use Rattle.std.specs.Prelude.{vec_capacity, vec_len};
 ghost use Rattle.gf_nfg.specs.inner.ListsLeft.{lists_left, size_of};
 ghost use Rattle.gf_token.specs.TextLayout.{Keeps};
 
-use crate::table::strategies::Strategies;
+use crate::table::strategies::StrategyLists;
 use gf_token::write_label;
 use std::alloc::AllocError;
 
@@ -36,7 +36,7 @@ impl ListsWritten {
 /// Appends what comes next of these lists: a brace or a label, and a space.
 #[tactic(auto, using(crate::proofs::lemmas::texts::Lists::next_of_lists))]
 fn write_next(
-    lists: &Strategies,
+    lists: &StrategyLists,
     written: ListsWritten,
     out: &mut Vec<u8>,
 ) -> Result<ListsWritten, AllocError>
@@ -76,7 +76,7 @@ fn write_next(
 /// Appends what is left of these lists, each before a space, and stops after the brace or the label
 /// that makes up this many bytes. Returns how much of them is written then.
 pub(crate) fn write_lists(
-    lists: &Strategies,
+    lists: &StrategyLists,
     written: ListsWritten,
     bytes: usize,
     out: &mut Vec<u8>,

@@ -8,7 +8,7 @@ ghost use Rattle.gf_nfg.specs.TableText.{lines_text};
 ghost use Rattle.gf_nfg.specs.TextPieces.{IsUngiven};
 ghost use Rattle.gf_nfg.specs.inner.TextParts.{heading_text, row_text};
 
-use crate::table::names::Names;
+use crate::table::frame::Frame;
 use crate::table::rows::Rows;
 use crate::text::lines::{Lines, write_rows};
 use crate::text::lists::ListsWritten;
@@ -102,20 +102,20 @@ impl TextPieces {
     /// profile. A piece has room for what may come last in it: a label, the ending, or a line.
     pub(crate) fn of_table(
         alloc: Global,
-        names: Names,
+        frame: Frame,
         rows: Rows,
     ) -> Result<TextPieces, AllocError>
-        requires { AllByRecursion (λ row. length row ≡ length names.players) rows }
+        requires { AllByRecursion (λ row. length row ≡ length frame.players) rows }
         ensures rest { IfOk result
-            (λ t. t.rest ≡ heading_text names ++ lines_text (map row_text rows)) }
+            (λ t. t.rest ≡ heading_text frame ++ lines_text (map row_text rows)) }
         ensures none { IfOk result (λ t. t.piece ≡ []) }
     {
         let mut piece = Vec::new(alloc);
-        write_front(&names, true, &mut piece)?;
+        write_front(&frame, true, &mut piece)?;
         let mut ending = Vec::new(alloc);
-        write_ending(&names, true, &mut ending)?;
-        let line = names.players().saturating_mul(MOST);
-        let strategies = names.into_lists();
+        write_ending(&frame, true, &mut ending)?;
+        let line = frame.players().saturating_mul(MOST);
+        let strategies = frame.into_lists();
         let longest = strategies.size().max(ending.len()).max(line);
         piece.reserve_exact(longest.saturating_add(PIECE + 3))?;
         Ok(TextPieces {

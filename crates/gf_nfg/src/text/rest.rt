@@ -4,7 +4,7 @@ ghost use Rattle.std.specs.Prelude.{◌≡◌, ◌<◌, ◌++◌, [], length, ve
 ghost use Rattle.gf_nfg.specs.inner.TextRest.{HasRoom, are_copies, rest_text};
 
 use crate::table::rows::Rows;
-use crate::table::strategies::Strategies;
+use crate::table::strategies::StrategyLists;
 use crate::text::lines::{Lines, write_lines};
 use crate::text::lists::{ListsWritten, write_lists};
 
@@ -27,7 +27,7 @@ pub(crate) enum Rest {
     /// Strategies, and how much of them was given; what stands behind them, until it is given; and
     /// the payoffs at each profile, and for how many profiles they were given.
     Table {
-        strategies: Strategies,
+        strategies: StrategyLists,
         written: ListsWritten,
         ending: Vec<u8>,
         rows: Rows,

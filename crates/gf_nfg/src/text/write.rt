@@ -6,25 +6,25 @@ ghost use Rattle.gf_token.specs.Label.{label_of};
 ghost use Rattle.gf_nfg.specs.Spellable.{IsSpellable};
 ghost use Rattle.gf_nfg.specs.Table.{IsTable};
 ghost use Rattle.gf_nfg.specs.TableText.{SpellsTable, list_text, quoted, table_text};
-ghost use Rattle.gf_nfg.specs.inner.TextParts.{ending_text, front_text, heading_text, names_by};
+ghost use Rattle.gf_nfg.specs.inner.TextParts.{ending_text, front_text, heading_text, frame_by};
 ghost use Rattle.gf_token.specs.TextLayout.{Keeps};
 
 use crate::table::Table;
-use crate::table::names::Names;
+use crate::table::frame::Frame;
 use crate::text::lines::write_rows;
 use crate::text::lists::{ListsWritten, write_lists};
 use gf_token::{Label, write_label};
 use std::alloc::AllocError;
 
 /// Appends the players' names in braces.
-fn write_players(names: &Names, out: &mut Vec<u8>) -> Result<(), AllocError>
+fn write_players(frame: &Frame, out: &mut Vec<u8>) -> Result<(), AllocError>
     ensures text { OnOk result
-        (out.new.items ≡ out.old.items ++ list_text (map quoted names.now.players)) }
+        (out.new.items ≡ out.old.items ++ list_text (map quoted frame.now.players)) }
     ensures kept { OnErr result (Keeps out.old.items out.new.items) }
 {
     out.extend_from_slice(b"{ ")?;
-    for at in 0..names.players() {
-        write_label(names.player(at), out)?;
+    for at in 0..frame.players() {
+        write_label(frame.player(at), out)?;
         out.push(b' ')?;
     }
     out.push(b'}')?;
@@ -43,40 +43,40 @@ fn label_by(named: bool, label: Label<'_>) -> Label<'_>
 }
 
 /// Appends what stands before the strategies: the first line and a brace.
-pub(crate) fn write_front(names: &Names, named: bool, out: &mut Vec<u8>) -> Result<(), AllocError>
+pub(crate) fn write_front(frame: &Frame, named: bool, out: &mut Vec<u8>) -> Result<(), AllocError>
     ensures text { OnOk result
-        (out.new.items ≡ out.old.items ++ front_text (names_by named names.now)) }
+        (out.new.items ≡ out.old.items ++ front_text (frame_by named frame.now)) }
     ensures kept { OnErr result (Keeps out.old.items out.new.items) }
 {
     out.extend_from_slice(b"NFG 1 R ")?;
-    write_label(label_by(named, names.title()), out)?;
+    write_label(label_by(named, frame.title()), out)?;
     out.push(b' ')?;
-    write_players(names, out)?;
+    write_players(frame, out)?;
     out.extend_from_slice(b"\n{ ")?;
     Ok(())
 }
 
 /// Appends what stands between the strategies and the payoffs: a brace and the comment.
-pub(crate) fn write_ending(names: &Names, named: bool, out: &mut Vec<u8>) -> Result<(), AllocError>
+pub(crate) fn write_ending(frame: &Frame, named: bool, out: &mut Vec<u8>) -> Result<(), AllocError>
     ensures text { OnOk result
-        (out.new.items ≡ out.old.items ++ ending_text (names_by named names.now)) }
+        (out.new.items ≡ out.old.items ++ ending_text (frame_by named frame.now)) }
     ensures kept { OnErr result (Keeps out.old.items out.new.items) }
 {
     out.extend_from_slice(b"}\n")?;
-    write_label(label_by(named, names.comment()), out)?;
+    write_label(label_by(named, frame.comment()), out)?;
     out.extend_from_slice(b"\n\n")?;
     Ok(())
 }
 
 /// Appends everything before the payoffs; title and comment are empty unless it is `named`.
-pub(crate) fn write_heading(names: &Names, named: bool, out: &mut Vec<u8>) -> Result<(), AllocError>
+pub(crate) fn write_heading(frame: &Frame, named: bool, out: &mut Vec<u8>) -> Result<(), AllocError>
     ensures text { OnOk result
-        (out.new.items ≡ out.old.items ++ heading_text (names_by named names.now)) }
+        (out.new.items ≡ out.old.items ++ heading_text (frame_by named frame.now)) }
     ensures kept { OnErr result (Keeps out.old.items out.new.items) }
 {
-    write_front(names, named, out)?;
-    write_lists(names.lists(), ListsWritten::nothing(), usize::MAX, out)?;
-    write_ending(names, named, out)?;
+    write_front(frame, named, out)?;
+    write_lists(frame.lists(), ListsWritten::nothing(), usize::MAX, out)?;
+    write_ending(frame, named, out)?;
     Ok(())
 }
 
@@ -87,8 +87,8 @@ fn write_text(t: &Table, out: &mut Vec<u8>) -> Result<(), AllocError>
     ensures spellable { IsSpellable t.now }
     ensures kept { OnErr result (Keeps out.old.items out.new.items) }
 {
-    out.reserve(t.names().room())?;
-    write_heading(t.names(), true, out)?;
+    out.reserve(t.frame().room())?;
+    write_heading(t.frame(), true, out)?;
     write_rows(t.rows(), out)
 }
 

@@ -15,7 +15,7 @@ use Rattle.gf_nfg.proofs.lemmas.runs.Payoffs.{choices_found, choices_again, rows
 use Rattle.gf_nfg.proofs.lemmas.runs.Payoffs.{outcomes_full, choices_pay, choices_chosen}
 use Rattle.gf_nfg.proofs.lemmas.runs.Strategies.{heading_found, strategies_again, strategies_found}
 use Rattle.gf_nfg.proofs.lemmas.runs.Strategies.{AllSome, heading_leads, heading_line, with_counts}
-use Rattle.gf_nfg.proofs.lemmas.runs.Strategies.{IsGroup, Kind, Strategies, heading, labels_in}
+use Rattle.gf_nfg.proofs.lemmas.runs.Strategies.{IsGroup, Kind, StrategyLists, heading, labels_in}
 use Rattle.gf_nfg.proofs.lemmas.tables.Profiles.{length-profiles}
 use Rattle.gf_token.proofs.Offered.{run_after}
 
@@ -141,23 +141,23 @@ body_again body c rs above full count (inr b) =
 
 -- ---- the strategies
 
-either_kind : (k : Kind) (inner : List Token) (strategies : Strategies)
+either_kind : (k : Kind) (inner : List Token) (strategies : StrategyLists)
     → Each (IsGroup k) inner strategies
     → Each IsCount inner strategies ⊎ Each IsLabelList inner strategies
 either_kind k inner strategies h = grind arith
 
-pub kind_of : (inner : List Token) (strategies : Strategies)
+pub kind_of : (inner : List Token) (strategies : StrategyLists)
     → Each IsCount inner strategies ⊎ Each IsLabelList inner strategies
     → (k : Kind) × Each (IsGroup k) inner strategies
 kind_of inner strategies h = grind arith
 
-counts_mean : (strategies : Strategies) (inner : List Token) → Each IsCount inner strategies
+counts_mean : (strategies : StrategyLists) (inner : List Token) → Each IsCount inner strategies
     → map counted_labels (map length strategies) ≡ strategies
 counts_mean [] inner h = refl
 counts_mean (labels ∷ strategies) inner h =
     cc (length-counted_labels (h.3.1), counts_mean strategies h.1 h.4)
 
-strategies_mean : (k : Kind) (strategies : Strategies) (inner : List Token)
+strategies_mean : (k : Kind) (strategies : StrategyLists) (inner : List Token)
     → Each (IsGroup k) inner strategies → AllSome strategies
     → strategies_of (map length strategies) (labels_in k strategies) ≡ strategies
 strategies_mean k strategies inner h some =
@@ -168,12 +168,12 @@ labels_fit : (counts : List ℕ) (labels : List (List ℕ)) → length labels �
     → HasLabels counts labels
 labels_fit counts labels e = grind arith
 
-labels_kept : (k : Kind) (strategies : Strategies)
+labels_kept : (k : Kind) (strategies : StrategyLists)
     → HasLabels (map length strategies) (labels_in k strategies)
 labels_kept k strategies = grind (arith, labels_fit, joined, length-joined)
 
 -- of positive numbers of strategies there are some profiles
-some_profiles : (strategies : Strategies) → AllSome strategies
+some_profiles : (strategies : StrategyLists) → AllSome strategies
     → 0 < 1 * product (map length strategies)
 some_profiles strategies some =
     grind (arith, product_above_zero, all_images (λ n. 0 < n) length strategies some)
@@ -186,7 +186,7 @@ pub record Read (ts : List Token) (r : Content) : Type 0 where
   pub complete : IsComplete r
 
 -- what is read before the comment
-abbrev begun : List ℕ → List (List ℕ) → Kind → Strategies → Content
+abbrev begun : List ℕ → List (List ℕ) → Kind → StrategyLists → Content
 begun title players k strategies =
     with_counts (heading title players) (map length strategies) (labels_in k strategies)
 

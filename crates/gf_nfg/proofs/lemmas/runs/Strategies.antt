@@ -123,10 +123,10 @@ heading_leads letter title players h =
 -- ---- the strategies
 
 -- the labels of some players' strategies, a list for each
-abbrev pub Strategies : Type 0
-Strategies = List (List (List ℕ))
+abbrev pub StrategyLists : Type 0
+StrategyLists = List (List (List ℕ))
 
-abbrev pub AllSome : Strategies → Type 0
+abbrev pub AllSome : StrategyLists → Type 0
 AllSome strategies = AllByRecursion (λ labels. 0 < length labels) strategies
 
 -- counts, or lists of labels
@@ -144,7 +144,7 @@ next ByCounts = p.Counts
 next ByLists = p.BeforeList
 
 -- the labels that are kept
-abbrev pub labels_in : Kind → Strategies → List (List ℕ)
+abbrev pub labels_in : Kind → StrategyLists → List (List ℕ)
 labels_in ByCounts strategies = []
 labels_in ByLists strategies = joined strategies
 
@@ -160,7 +160,7 @@ with_counts c counts labels = record c {
   profiles = c.profiles * product counts;
 }
 
-pub all_groups : (k : Kind) (strategies : Strategies) (c : Content)
+pub all_groups : (k : Kind) (strategies : StrategyLists) (c : Content)
     → all_in (with_group k) c strategies
     ≡ with_counts c (map length strategies) (labels_in k strategies)
 all_groups k [] c = grind (arith, append-nil, mul-one)
@@ -214,7 +214,7 @@ pub record Read (ts : List Token) (due : ℕ) (c r : Content) : Type 0 where
   pub kind : Kind
   pub inner : List Token
   pub rest : List Token
-  pub strategies : Strategies
+  pub strategies : StrategyLists
   pub parts : ts ≡ braced inner ++ rest
   pub each : Each (IsGroup kind) inner strategies
   pub some : AllSome strategies
@@ -269,7 +269,7 @@ group_walk ByLists due c group labels h some =
     grind arith
 
 -- where groups of all players lead
-groups_walk : (k : Kind) (strategies : Strategies) (inner : List Token) (c : Content)
+groups_walk : (k : Kind) (strategies : StrategyLists) (inner : List Token) (c : Content)
     → Each (IsGroup k) inner strategies → AllSome strategies
     → walk (due_at k (length strategies) c) inner
     ≡ Ok (due_at k 0 (all_in (with_group k) c strategies))
@@ -280,7 +280,7 @@ groups_walk k (labels ∷ strategies) inner c h some =
     grind (arith, walk_on step)
 
 -- the first may be of either kind
-either_first : (k : Kind) (strategies : Strategies) (inner rest : List Token) (c : Content)
+either_first : (k : Kind) (strategies : StrategyLists) (inner rest : List Token) (c : Content)
     → Each (IsGroup k) inner strategies
     → run (at (p.FirstStrategies (length strategies)) c) (inner ++ Closing ∷ rest)
     ≡ run (due_at k (length strategies) c) (inner ++ Closing ∷ rest)
@@ -291,8 +291,8 @@ closed : (k : Kind) (rest : List Token) (c : Content)
     → run (due_at k 0 c) (Closing ∷ rest) ≡ run (strategies_end c) rest
 closed k rest c = grind arith
 
-pub strategies_again : (k : Kind) (strategies : Strategies) (inner rest : List Token) (c : Content)
-    → Each (IsGroup k) inner strategies → AllSome strategies
+pub strategies_again : (k : Kind) (strategies : StrategyLists) (inner rest : List Token)
+    (c : Content) → Each (IsGroup k) inner strategies → AllSome strategies
     → run (at (p.FirstStrategies (length strategies)) c) (inner ++ Closing ∷ rest)
     ≡ run (strategies_end (with_counts c (map length strategies) (labels_in k strategies))) rest
 strategies_again k strategies inner rest c h some =

@@ -3,8 +3,8 @@
 use Rattle.gf_nfg.proofs.Common
 use Common.{IsWithinLimit, content_with, HasToldTable, SpellsTable, table_with, IsComplete, IsTable}
 use Common.{content_in, content_of, append-nil, length-map, IsCompared, MeansTable, slice_get, List}
-use Common.{SameTable, mul_comm, names_in, table_of, named_by, names_by, Content, Payoffs, Heading}
-use Common.{length, IsTrue, subst, arith, Ratio, Table, Names, ◌++◌, rows, Some, Bool, true, ◌==◌}
+use Common.{SameTable, mul_comm, frame_in, table_of, named_by, frame_by, Content, Payoffs, Heading}
+use Common.{length, IsTrue, subst, arith, Ratio, Table, Frame, ◌++◌, rows, Some, Bool, true, ◌==◌}
 use Common.{drop, ◌≡◌, ◌<◌, ◌+◌, ◌∷◌, sym, ◌∙◌, ◌↔◌, [], ap, ℕ}
 use Rattle.gf_nfg.specs.inner.ListedTable.{IsListed, IsListing, listed}
 use Rattle.gf_nfg.specs.declared.listed.Body.{Body}
@@ -13,7 +13,7 @@ use Rattle.gf_nfg.specs.declared.comparison.Comparison.{Comparison}
 use Rattle.gf_nfg.proofs.lemmas.tables.Lists.{joined, rows_again, rows_in_turn}
 use Rattle.gf_nfg.proofs.lemmas.tables.Meaning.{is_table, profiles_counted, rows-table_of}
 use Rattle.gf_nfg.proofs.lemmas.tables.Rows.{entries_again, entries_counted}
-use Rattle.gf_nfg.proofs.lemmas.tables.Same.{names_in as own_names, same_is_equal}
+use Rattle.gf_nfg.proofs.lemmas.tables.Same.{frame_in as own_frame, same_is_equal}
 use Rattle.gf_nfg.proofs.lemmas.texts.Pieces.{drop_from}
 
 -- ---- the table that was told
@@ -34,31 +34,31 @@ module _ (bytes : List ℕ) (heading : Heading) (l : Listing)
   abbrev told : Content
   told = content_with heading h.payoffs h.numbers
 
-  abbrev body : Names → Body
-  body names = Body.InTurn names l.whole l.kept.payoffs
+  abbrev body : Frame → Body
+  body frame = Body.InTurn frame l.whole l.kept.payoffs
 
   none_chosen : l.kept.numbers.items ≡ [] → told.choices ≡ []
   none_chosen none = sym h.holding.numbers_are ∙ none
 
-  in_turn_told : (names : Names) → names ≡ names_in (content_in heading)
-      → l.kept.numbers.items ≡ [] → listed (body names) ≡ table_of told
-  in_turn_told names is none = grind (arith, profiles_counted told h.means.complete)
+  in_turn_told : (frame : Frame) → frame ≡ frame_in (content_in heading)
+      → l.kept.numbers.items ≡ [] → listed (body frame) ≡ table_of told
+  in_turn_told frame is none = grind (arith, profiles_counted told h.means.complete)
 
-  pub in_turn_listed : (names : Names) → names ≡ names_in (content_in heading)
-      → l.kept.numbers.items ≡ [] → IsListed (body names)
-  in_turn_listed names is none =
-      let same = in_turn_told names is none in
+  pub in_turn_listed : (frame : Frame) → frame ≡ frame_in (content_in heading)
+      → l.kept.numbers.items ≡ [] → IsListed (body frame)
+  in_turn_listed frame is none =
+      let same = in_turn_told frame is none in
       record {
         is_table = subst IsTable (sym same) (is_table told h.means.complete);
         full = ap (λ (t : Table). joined (rows t)) same
             ∙ payoffs_told told h.means.complete (none_chosen none) ∙ sym h.holding.payoffs_are;
       }
 
-  pub in_turn_means : (names : Names) → names ≡ names_in (content_in heading)
+  pub in_turn_means : (frame : Frame) → frame ≡ frame_in (content_in heading)
       → l.kept.numbers.items ≡ []
-      → SpellsTable bytes (listed (body names)) × IsWithinLimit (listed (body names))
-  in_turn_means names is none =
-      subst (λ t. SpellsTable bytes t × IsWithinLimit t) (sym (in_turn_told names is none))
+      → SpellsTable bytes (listed (body frame)) × IsWithinLimit (listed (body frame))
+  in_turn_means frame is none =
+      subst (λ t. SpellsTable bytes t × IsWithinLimit t) (sym (in_turn_told frame is none))
       (h.means.spelled, h.means.within)
 
   pub parts_told : ¬ (l.kept.numbers.items ≡ [])
@@ -67,20 +67,20 @@ module _ (bytes : List ℕ) (heading : Heading) (l : Listing)
       let same : told ≡ content_of (record { heading = heading; kept = l.kept }) = grind arith in
       subst (MeansTable bytes) same h.means
 
--- ---- the same table by its names and rows
+-- ---- the same table by its frame and rows
 
 module _ (named : Bool) (t u : Table) (ht : IsTable t) (hu : IsTable u) where
   named_table : (t : Table) → IsTable t → IsTable (named_by named t)
   named_table t h = grind arith
 
-  table_again : (t : Table) → IsTable t → table_with (own_names t) (rows t) ≡ t
+  table_again : (t : Table) → IsTable t → table_with (own_frame t) (rows t) ≡ t
   table_again t h = grind (arith, entries_again)
 
-  abbrev SameNames : Type 0
-  SameNames = names_by named (own_names t) ≡ names_by named (own_names u)
+  abbrev SameFrame : Type 0
+  SameFrame = frame_by named (own_frame t) ≡ frame_by named (own_frame u)
 
   pub same_by_rows : SameTable (named_by named t) (named_by named u)
-      ↔ (SameNames × (rows t ≡ rows u))
+      ↔ (SameFrame × (rows t ≡ rows u))
   same_by_rows = grind (
     arith,
     same_is_equal (named_by named t) (named_by named u) (named_table t ht) (named_table u hu),
@@ -89,14 +89,14 @@ module _ (named : Bool) (t u : Table) (ht : IsTable t) (hu : IsTable u) where
   )
 
   -- payoffs of as many players and profiles are in the same rows
-  rows_parted : SameNames → joined (rows t) ≡ joined (rows u) → rows t ≡ rows u
-  rows_parted names same =
+  rows_parted : SameFrame → joined (rows t) ≡ joined (rows u) → rows t ≡ rows u
+  rows_parted frame same =
       let first = rows_again (length t.players) (rows t) ht.one_payoff_each in
       let second = rows_again (length u.players) (rows u) hu.one_payoff_each in
       grind (arith, entries_counted t ht, entries_counted u hu, length-map)
 
   pub same_in_turn : SameTable (named_by named t) (named_by named u)
-      ↔ (SameNames × (joined (rows t) ≡ joined (rows u)))
+      ↔ (SameFrame × (joined (rows t) ≡ joined (rows u)))
   same_in_turn = grind (arith, same_by_rows, rows_parted)
 
 pub ruleset same_listed = (same_by_rows, same_in_turn)
@@ -123,10 +123,10 @@ module _ (t : Table) (bytes : List ℕ) (heading : Heading) (c : Comparison)
       let end = compared [] in
       grind (arith, append-nil)
 
-  pub told_compared : (named : Bool) (m n : Names) → IsTable t → m ≡ own_names t
-      → n ≡ names_in (content_in heading) → c.version ≡ Payoffs
+  pub told_compared : (named : Bool) (m n : Frame) → IsTable t → m ≡ own_frame t
+      → n ≡ frame_in (content_in heading) → c.version ≡ Payoffs
       → SameTable (named_by named t) (named_by named (table_of other))
-      ↔ ((names_by named m ≡ names_by named n) × (IsTrue c.same × (c.left ≡ [])))
+      ↔ ((frame_by named m ≡ frame_by named n) × (IsTrue c.same × (c.left ≡ [])))
   told_compared named m n ht mine theirs version = rw (mine, theirs) (
       let payoffs = payoffs_compared version in
       let same = same_in_turn named t (table_of other) ht (is_table other h.means.complete) in

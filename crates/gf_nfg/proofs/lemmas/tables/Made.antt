@@ -3,7 +3,7 @@ use Rattle.gf_nfg.proofs.Common.{◌≡◌, ℕ, ◌*◌, ◌<◌, ◌≤◌, Li
 use Rattle.gf_nfg.proofs.Common.{◌∙◌, arith, Vec, rows_of, AllByRecursion, AllZip}
 use Rattle.gf_nfg.proofs.Common.{length-map, label_of, Label, Ratio, IsFraction, all_both}
 use Rattle.gf_nfg.proofs.Common.{all_joined, all_lists, profile_limit, product, IsTableOf, AreParts}
-use Rattle.gf_nfg.proofs.Common.{AreSpellings, IsHeld, IsTable, Names, rows, table_with}
+use Rattle.gf_nfg.proofs.Common.{AreSpellings, IsHeld, IsTable, Frame, rows, table_with}
 use Rattle.gf_nfg.proofs.lemmas.tables.LabelLists.{labels_spelled}
 use Rattle.gf_nfg.proofs.lemmas.tables.Lists.{full_in_turn, joined, length-rows_of, rows_in_turn}
 use Rattle.gf_nfg.proofs.lemmas.tables.Rows.{entries_counted, is_table, rows-table_with}
@@ -24,8 +24,8 @@ clones_are xs ys h = absurd (grind arith)
 
 -- ---- parts that fit
 
-abbrev pub names_with : Label → Label → List Label → List (List (List ℕ)) → Names
-names_with title comment players strategies = record {
+abbrev pub frame_with : Label → Label → List Label → List (List (List ℕ)) → Frame
+frame_with title comment players strategies = record {
   title = label_of title;
   comment = label_of comment;
   players = map label_of players;
@@ -38,31 +38,31 @@ pub parts_of_labels : (title comment : Label) (players : List Label)
     → product (map length strategies) ≤ profile_limit → AllByRecursion IsFraction payoffs
     → length payoffs ≡ product (map length strategies) * length players
     → AllByRecursion (λ own. AreSpellings own) strategies
-    → AreParts (names_with title comment players strategies) payoffs
+    → AreParts (frame_with title comment players strategies) payoffs
 parts_of_labels title comment players strategies payoffs one some few fractions full spelled =
     search (arith, length-map, all_both, labels_spelled, all_joined)
 
 -- ---- the table
 
--- names, and rows of these payoffs, one for each profile
-module _ (names : Names) (payoffs : List Ratio) (p : AreParts names payoffs) where
+-- a frame, and rows of these payoffs, one for each profile
+module _ (frame : Frame) (payoffs : List Ratio) (p : AreParts frame payoffs) where
   abbrev pub made_rows : List (List Ratio)
-  made_rows = rows_of (length names.players) (product (map length names.strategies)) payoffs
+  made_rows = rows_of (length frame.players) (product (map length frame.strategies)) payoffs
 
-  counted : length made_rows ≡ product (map length names.strategies)
-  counted = length-rows_of (length names.players) _ payoffs
+  counted : length made_rows ≡ product (map length frame.strategies)
+  counted = length-rows_of (length frame.players) _ payoffs
 
-  rows_are : rows (table_with names made_rows) ≡ made_rows
-  rows_are = rows-table_with names made_rows counted
+  rows_are : rows (table_with frame made_rows) ≡ made_rows
+  rows_are = rows-table_with frame made_rows counted
 
   in_turn : joined made_rows ≡ payoffs
-  in_turn = rows_in_turn (length names.players) _ payoffs p.one_row_each
+  in_turn = rows_in_turn (length frame.players) _ payoffs p.one_row_each
 
-  table_made : IsTable (table_with names made_rows)
-  table_made = is_table names made_rows counted p.one_list_each p.some_strategy
-      (full_in_turn (length names.players) _ payoffs p.one_row_each)
+  table_made : IsTable (table_with frame made_rows)
+  table_made = is_table frame made_rows counted p.one_list_each p.some_strategy
+      (full_in_turn (length frame.players) _ payoffs p.one_row_each)
 
-  pub made_held : IsHeld names made_rows
+  pub made_held : IsHeld frame made_rows
   made_held = record {
     is_table = table_made;
     spellable = record {
@@ -74,8 +74,8 @@ module _ (names : Names) (payoffs : List Ratio) (p : AreParts names payoffs) whe
     rows_are = rows_are;
   }
 
-  pub made_is : IsTableOf (table_with names made_rows) names.title names.comment names.players
-      names.strategies payoffs
+  pub made_is : IsTableOf (table_with frame made_rows) frame.title frame.comment frame.players
+      frame.strategies payoffs
   made_is = record {
     title_is = refl;
     comment_is = refl;
@@ -87,4 +87,4 @@ module _ (names : Names) (payoffs : List Ratio) (p : AreParts names payoffs) whe
 
 pub ruleset made_in_turn = (made_held, made_is)
 
-pub ruleset made_of_labels = (names_with, parts_of_labels)
+pub ruleset made_of_labels = (frame_with, parts_of_labels)

@@ -3,7 +3,7 @@ use Rattle.gf_nfg.proofs.Common.{◌≡◌, ℕ, ◌<◌, ◌≤◌, List, [], �
 use Rattle.gf_nfg.proofs.Common.{◌∙◌, arith, length-take, length-drop, sum, AllByRecursion}
 use Rattle.gf_nfg.proofs.Common.{mul_comm, length-map, Ratio, all_mapped, product}
 use Rattle.gf_nfg.proofs.Common.{profile_limit, IsWithinLimit, IsSpellable, IsTable, rows}
-use Rattle.gf_nfg.proofs.Common.{Names, groups, IsHeld, HasRows, Content, names_in, strategies_of}
+use Rattle.gf_nfg.proofs.Common.{Frame, groups, IsHeld, HasRows, Content, frame_in, strategies_of}
 use Rattle.gf_nfg.proofs.Common.{rows_by, table_of, HasPayoffs, HasLabels, IsComplete}
 use Rattle.gf_nfg.proofs.lemmas.tables.Lists.{joined, sum-cons, counts_back, groups-joined}
 use Rattle.gf_nfg.proofs.lemmas.tables.Rows as kept
@@ -48,17 +48,17 @@ module _ (c : Content) (h : IsComplete c) where
   rows_counted = kept.rows_counted (length c.players) c.profiles c.payoffs c.choices
       (has_rows c c.choices h.has_rows)
 
-  pub profiles_counted : c.profiles ≡ product (map length (names_in c).strategies)
+  pub profiles_counted : c.profiles ≡ product (map length (frame_in c).strategies)
   profiles_counted = grind (arith, counts-strategies_of)
 
-  one_row_each : length rs ≡ product (map length (names_in c).strategies)
+  one_row_each : length rs ≡ product (map length (frame_in c).strategies)
   one_row_each = rows_counted ∙ profiles_counted
 
   pub rows-table_of : rows (table_of c) ≡ rs
-  rows-table_of = kept.rows-table_with (names_in c) rs one_row_each
+  rows-table_of = kept.rows-table_with (frame_in c) rs one_row_each
 
   pub is_table : IsTable (table_of c)
-  is_table = kept.is_table (names_in c) rs one_row_each
+  is_table = kept.is_table (frame_in c) rs one_row_each
       (grind (arith, counts-strategies_of, length-map))
       (grind (arith, counts-strategies_of, all_mapped))
       (kept.full_rows (length c.players) c.profiles c.payoffs c.choices
@@ -70,9 +70,9 @@ module _ (c : Content) (h : IsComplete c) where
   pub within_limit : c.profiles ≤ profile_limit → IsWithinLimit (table_of c)
   within_limit within = omega (arith, length-entries, within)
 
-  pub held : (names : Names) (qs : List (List Ratio)) → names ≡ names_in c → qs ≡ rs
-      → c.profiles ≤ profile_limit → IsSpellable (table_of c) → IsHeld names qs
-  held names qs n r within spellable = rw (n, r) (record {
+  pub held : (frame : Frame) (qs : List (List Ratio)) → frame ≡ frame_in c → qs ≡ rs
+      → c.profiles ≤ profile_limit → IsSpellable (table_of c) → IsHeld frame qs
+  held frame qs n r within spellable = rw (n, r) (record {
     is_table = is_table;
     spellable = spellable;
     within = within_limit within;

@@ -3,7 +3,7 @@ use Rattle.gf_nfg.proofs.Common
 use Common.{mul-le-mul_right, AllByRecursion, profile_limit, get_or_from_slice_get, product}
 use Common.{all_images, table_with, length-map, get_or-map, slice_get, zero, drop_more, IsProfile}
 use Common.{mul_comm, profiles, IsPlaced, IsTable, PaysAt, length, get_or, IsHeld, own_of, arith}
-use Common.{Ratio, place, Table, Entry, Names, List, drop, Some, rows}
+use Common.{Ratio, place, Table, Entry, Frame, List, drop, Some, rows}
 use Common.{◌≡◌, ◌∙◌, ap, suc, ◌+◌, ◌-◌, ◌*◌, ◌<◌, ◌≤◌, ◌∷◌, map, ◌⊎◌, [], ℕ}
 use Rattle.std.proofs.lemmas.List.Elements.{AllZip-get_or, length_all_zip}
 use Rattle.gf_nfg.proofs.lemmas.tables.Profiles.{every_profile, length-profiles}
@@ -45,56 +45,56 @@ product_drop (n ∷ counts) (suc at) h =
     grind (arith, product_drop counts, mul-le-mul_right (product counts) h.0)
 
 -- what is known of a player whose strategy is looked at
-pub record AtPlayer (names : Names) (profile : List ℕ) (at place count : ℕ) : Type 0 where
-  pub one_list_each : length names.strategies ≡ length names.players
-  pub some_strategy : AllByRecursion (λ own. 0 < length own) names.strategies
-  pub within : product (map length names.strategies) ≤ profile_limit
-  pub one_number_each : length profile ≡ length names.players
-  pub player : at < length names.players
-  pub found : IsPlaced (drop (at + 1) (map length names.strategies)) (drop (at + 1) profile) place
-  pub count_is : count ≡ length (own_of names at)
+pub record AtPlayer (frame : Frame) (profile : List ℕ) (at place count : ℕ) : Type 0 where
+  pub one_list_each : length frame.strategies ≡ length frame.players
+  pub some_strategy : AllByRecursion (λ own. 0 < length own) frame.strategies
+  pub within : product (map length frame.strategies) ≤ profile_limit
+  pub one_number_each : length profile ≡ length frame.players
+  pub player : at < length frame.players
+  pub found : IsPlaced (drop (at + 1) (map length frame.strategies)) (drop (at + 1) profile) place
+  pub count_is : count ≡ length (own_of frame at)
 
 -- the player before this place
-pub player_before : {names : Names} {profile : List ℕ} {at place count : ℕ}
-    → length names.strategies ≡ length names.players
-    → AllByRecursion (λ own. 0 < length own) names.strategies
-    → product (map length names.strategies) ≤ profile_limit
-    → length profile ≡ length names.players → 0 < at → at ≤ length names.players
-    → IsPlaced (drop at (map length names.strategies)) (drop at profile) place
-    → count ≡ length (own_of names (at - 1)) → AtPlayer names profile (at - 1) place count
-player_before {names} {profile} {at} one some few full above within found is = grind arith
+pub player_before : {frame : Frame} {profile : List ℕ} {at place count : ℕ}
+    → length frame.strategies ≡ length frame.players
+    → AllByRecursion (λ own. 0 < length own) frame.strategies
+    → product (map length frame.strategies) ≤ profile_limit
+    → length profile ≡ length frame.players → 0 < at → at ≤ length frame.players
+    → IsPlaced (drop at (map length frame.strategies)) (drop at profile) place
+    → count ≡ length (own_of frame (at - 1)) → AtPlayer frame profile (at - 1) place count
+player_before {frame} {profile} {at} one some few full above within found is = grind arith
 
-at_count : {names : Names} {profile : List ℕ} {at place count : ℕ}
-    → AtPlayer names profile at place count → (at < length (map length names.strategies))
-    × (count ≡ get_or (map length names.strategies) at 0)
-at_count {names} {profile} {at} {place} {count} a = grind (arith, length-map, get_or-map)
+at_count : {frame : Frame} {profile : List ℕ} {at place count : ℕ}
+    → AtPlayer frame profile at place count → (at < length (map length frame.strategies))
+    × (count ≡ get_or (map length frame.strategies) at 0)
+at_count {frame} {profile} {at} {place} {count} a = grind (arith, length-map, get_or-map)
 
-pub strategy_out : {names : Names} {profile : List ℕ} {at place count : ℕ}
-    → AtPlayer names profile at place count
+pub strategy_out : {frame : Frame} {profile : List ℕ} {at place count : ℕ}
+    → AtPlayer frame profile at place count
     → (get_or profile at 0 ≡ 0) ⊎ (¬ (get_or profile at 0 ≡ 0) × (count < get_or profile at 0))
-    → ¬ (IsProfile (map length names.strategies) profile)
-strategy_out {names} {profile} {at} a out = λ h.
+    → ¬ (IsProfile (map length frame.strategies) profile)
+strategy_out {frame} {profile} {at} a out = λ h.
     let fits = AllZip-get_or (λ s count. (1 ≤ s) × (s ≤ count)) profile
-    (map length names.strategies) at 0 0 h (omega (arith, a.player, a.one_number_each)) in
+    (map length frame.strategies) at 0 0 h (omega (arith, a.player, a.one_number_each)) in
     let size = (at_count a).1 in
     omega (arith, fits, size, out)
 
-pub strategy_in : {names : Names} {profile : List ℕ} {at place count : ℕ}
-    → AtPlayer names profile at place count → 0 < get_or profile at 0 → get_or profile at 0 ≤ count
-    → IsPlaced (drop at (map length names.strategies)) (drop at profile)
+pub strategy_in : {frame : Frame} {profile : List ℕ} {at place count : ℕ}
+    → AtPlayer frame profile at place count → 0 < get_or profile at 0 → get_or profile at 0 ≤ count
+    → IsPlaced (drop at (map length frame.strategies)) (drop at profile)
     (place * count + (get_or profile at 0 - 1))
-strategy_in {names} {profile} {at} {place} {count} a above within =
-    place_more (map length names.strategies) profile at count place (at_count a).0
+strategy_in {frame} {profile} {at} {place} {count} a above within =
+    place_more (map length frame.strategies) profile at count place (at_count a).0
     (omega (arith, a.player, a.one_number_each)) (at_count a).1 above within a.found
 
-pub strategy_fits : {names : Names} {profile : List ℕ} {at place count : ℕ}
-    → AtPlayer names profile at place count → 0 < get_or profile at 0 → get_or profile at 0 ≤ count
+pub strategy_fits : {frame : Frame} {profile : List ℕ} {at place count : ℕ}
+    → AtPlayer frame profile at place count → 0 < get_or profile at 0 → get_or profile at 0 ≤ count
     → place * count + (get_or profile at 0 - 1) < profile_limit
-strategy_fits {names} {profile} {at} a above within =
-    let below = place_below (drop at (map length names.strategies)) (drop at profile) _
+strategy_fits {frame} {profile} {at} a above within =
+    let below = place_below (drop at (map length frame.strategies)) (drop at profile) _
     (strategy_in a above within) in
-    let whole = product_drop (map length names.strategies) at
-    (all_images (λ n. 0 < n) length names.strategies a.some_strategy) in
+    let whole = product_drop (map length frame.strategies) at
+    (all_images (λ n. 0 < n) length frame.strategies a.some_strategy) in
     omega (arith, below, whole, a.within)
 
 -- ---- the payoffs of a table at a profile
@@ -113,17 +113,17 @@ pays_at_place t profile k row h placed there =
     let paid = get_or-map (λ (x : Entry). x.payoffs) t.entries k e row less in
     (k, less, grind (arith, get_or_from_slice_get))
 
-pub pays_there : (names : Names) (rs : List (List Ratio)) (profile : List ℕ) (k : ℕ)
-    (row : List Ratio) → IsHeld names rs → IsPlaced (map length names.strategies) profile k
-    → slice_get rs k ≡ Some row → PaysAt (table_with names rs) profile row
-pays_there names rs profile k row h placed there =
-    pays_at_place (table_with names rs) profile k row h.is_table placed
+pub pays_there : (frame : Frame) (rs : List (List Ratio)) (profile : List ℕ) (k : ℕ)
+    (row : List Ratio) → IsHeld frame rs → IsPlaced (map length frame.strategies) profile k
+    → slice_get rs k ≡ Some row → PaysAt (table_with frame rs) profile row
+pays_there frame rs profile k row h placed there =
+    pays_at_place (table_with frame rs) profile k row h.is_table placed
     (ap (λ qs. slice_get qs k) h.rows_are ∙ there)
 
-pub place_there : (names : Names) (rs : List (List Ratio)) (profile : List ℕ) (place : ℕ)
-    → IsHeld names rs → IsPlaced (map length names.strategies) profile place → place < length rs
-place_there names rs profile place h found =
-    grind (arith, entries_counted (table_with names rs) h.is_table, length-map, place_below)
+pub place_there : (frame : Frame) (rs : List (List Ratio)) (profile : List ℕ) (place : ℕ)
+    → IsHeld frame rs → IsPlaced (map length frame.strategies) profile place → place < length rs
+place_there frame rs profile place h found =
+    grind (arith, entries_counted (table_with frame rs) h.is_table, length-map, place_below)
 
 pub ruleset places_found =
     (as_many, length-map, place_below, player_before, strategy_in, strategy_fits)

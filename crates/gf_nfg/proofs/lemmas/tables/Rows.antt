@@ -5,7 +5,7 @@ use Common.{length-replicate, slice_get-get_or, profile_limit, slice_get-map, le
 use Common.{length-drop, chosen_rows, AreNumbered, table_with, all_images, all_weaker, length-map}
 use Common.{entries_of, kept_rows, AreShared, slice_get, unwrap_or, profiles, AreFull, HasRows}
 use Common.{vec_len, product, rows_of, length, get_or, row_of, IsTable, arith, Entry, Ratio, Table}
-use Common.{mul-suc, all_at, subst, whole, Names, take, drop, rows, zero, List, Some, refl, suc}
+use Common.{mul-suc, all_at, subst, whole, Frame, take, drop, rows, zero, List, Some, refl, suc}
 use Common.{map, ◌≢◌, sym, pos, Vec, ◌≡◌, ◌∷◌, ◌∙◌, ◌<◌, ◌≤◌, ◌+◌, ◌-◌, ◌*◌, ◌/◌, ap, [], ℕ}
 use Rattle.std.proofs.Math.Nat.{mul-div_cancel}
 use Rattle.gf_nfg.proofs.lemmas.tables.Profiles.{length-profiles}
@@ -26,19 +26,19 @@ pub entries_again : (entries : List Entry)
 entries_again [] = refl
 entries_again (e ∷ entries) = ap (λ es. e ∷ es) (entries_again entries)
 
--- ---- a table of names and rows
+-- ---- a table of a frame and rows
 
-module _ (names : Names) (rs : List (List Ratio))
-    (one : length rs ≡ product (map length names.strategies)) where
+module _ (frame : Frame) (rs : List (List Ratio))
+    (one : length rs ≡ product (map length frame.strategies)) where
   abbrev counts : List ℕ
-  counts = map length names.strategies
+  counts = map length frame.strategies
 
-  pub rows-table_with : rows (table_with names rs) ≡ rs
+  pub rows-table_with : rows (table_with frame rs) ≡ rs
   rows-table_with = (parted (profiles counts) rs (length-profiles counts ∙ sym one)).1
 
-  pub is_table : length names.strategies ≡ length names.players
-      → AllByRecursion (λ own. 0 < length own) names.strategies
-      → AllByRecursion (λ row. length row ≡ length names.players) rs → IsTable (table_with names rs)
+  pub is_table : length frame.strategies ≡ length frame.players
+      → AllByRecursion (λ own. 0 < length own) frame.strategies
+      → AllByRecursion (λ row. length row ≡ length frame.players) rs → IsTable (table_with frame rs)
   is_table one_list_each some full = record {
     one_list_each = one_list_each;
     some_strategy = some;

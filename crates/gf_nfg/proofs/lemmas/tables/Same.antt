@@ -2,7 +2,7 @@
 use Rattle.gf_nfg.proofs.Common.{◌≡◌, ℕ, ◌<◌, List, [], length, map, get_or, sym, ap, ◌∙◌, arith}
 use Rattle.gf_nfg.proofs.Common.{◌↔◌, Bool, IsTrue, Contains, length-map, get_or-map}
 use Rattle.gf_nfg.proofs.Common.{get_or_default, same_lists, Ratio, profiles, Entry, Table, IsTable}
-use Rattle.gf_nfg.proofs.Common.{rows, Names, SamePlay, SameTable}
+use Rattle.gf_nfg.proofs.Common.{rows, Frame, SamePlay, SameTable}
 use Rattle.gf_nfg.proofs.lemmas.tables.Agreement as agrees
 use Rattle.gf_nfg.proofs.lemmas.tables.Profiles.{profiles_distinct}
 
@@ -42,18 +42,18 @@ same_play_by_rows t u ht hu =
     let pays = same_payoffs t u ht hu in
     grind arith
 
--- a table but for its payoffs
-abbrev pub names_in : Table → Names
-names_in t = record {
+-- a table without its payoffs
+abbrev pub frame_in : Table → Frame
+frame_in t = record {
   title = t.title;
   comment = t.comment;
   players = t.players;
   strategies = t.strategies;
 }
 
--- by what is kept of both tables, if the names are the same
-pub same_play_as_kept : (t u : Table) (m n : Names) (xs ys : List (List Ratio)) (answer : Bool)
-    → IsTable t → IsTable u → m ≡ names_in t → n ≡ names_in u
+-- by what is kept of both tables, if the frames are the same
+pub same_play_as_kept : (t u : Table) (m n : Frame) (xs ys : List (List Ratio)) (answer : Bool)
+    → IsTable t → IsTable u → m ≡ frame_in t → n ≡ frame_in u
     → (m.players ≡ n.players) × (m.strategies ≡ n.strategies) → xs ≡ rows t → ys ≡ rows u
     → IsTrue answer ↔ (xs ≡ ys) → IsTrue answer ↔ SamePlay t u
 same_play_as_kept t u m n xs ys answer ht hu left right both mine others same =

@@ -2,7 +2,7 @@
 use Rattle.gf_nfg.proofs.Common.{get_or_from_slice_get, take-append-drop, slice_get_within, RisesTo}
 use Rattle.gf_nfg.proofs.Common.{length-append, append_assoc, heading_text, append-nil, slice_get}
 use Rattle.gf_nfg.proofs.Common.{drop_more, drop-drop, list_text, drop_all, length, get_or, quoted}
-use Rattle.gf_nfg.proofs.Common.{pieces, false, codes, arith, Names, List, ◌++◌, refl, true, take}
+use Rattle.gf_nfg.proofs.Common.{pieces, false, codes, arith, Frame, List, ◌++◌, refl, true, take}
 use Rattle.gf_nfg.proofs.Common.{drop, Some, ◌≡◌, ◌+◌, ◌-◌, ◌<◌, ◌≤◌, ◌∷◌, map, sum, [], ℕ}
 use Rattle.std.specs.List.{sum_by}
 use Rattle.std.proofs.lemmas.List.Sums.{get_or-le-sum_by, sum-map, sum_by-append, sum_by-cons}
@@ -49,16 +49,16 @@ lists_are : (lists : List (List (List ℕ)))
 lists_are [] = refl
 lists_are (own ∷ lists) = grind (arith, append_assoc, list_text_is, lists_are lists)
 
-pub heading_is : (names : Names) → heading_text names
-    ≡ front_text names ++ (lists_text false 0 names.strategies ++ ending_text names)
-heading_is names = grind (arith, append_assoc, list_text_is, lists_are)
+pub heading_is : (frame : Frame) → heading_text frame
+    ≡ front_text frame ++ (lists_text false 0 frame.strategies ++ ending_text frame)
+heading_is frame = grind (arith, append_assoc, list_text_is, lists_are)
 
-pub heading_written : (names : Names) (old front lists left out : List ℕ)
-    → front ≡ old ++ front_text names
-    → lists ++ left ≡ front ++ lists_text false 0 names.strategies → left ≡ []
-    → out ≡ lists ++ ending_text names → out ≡ old ++ heading_text names
-heading_written names old front lists left out f e none h =
-    rw (heading_is names) (grind (arith, append_assoc, append-nil))
+pub heading_written : (frame : Frame) (old front lists left out : List ℕ)
+    → front ≡ old ++ front_text frame
+    → lists ++ left ≡ front ++ lists_text false 0 frame.strategies → left ≡ []
+    → out ≡ lists ++ ending_text frame → out ≡ old ++ heading_text frame
+heading_written frame old front lists left out f e none h =
+    rw (heading_is frame) (grind (arith, append_assoc, append-nil))
 
 -- ---- how many bytes their labels have
 

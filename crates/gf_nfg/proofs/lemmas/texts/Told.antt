@@ -2,11 +2,11 @@
 use Rattle.gf_nfg.proofs.Common
 use Common.{IsWithinLimit, content_with, heading_text, HasToldTable, SpellsTable, ◌≡◌}
 use Common.{append-nil, all_weaker, IsComplete, content_of, lines_text, table_text, MeansTable, suc}
-use Common.{laid_lines, names_in, table_of, named_by, names_by, row_text, mul_comm, Outcomes, arith}
+use Common.{laid_lines, frame_in, table_of, named_by, frame_by, row_text, mul_comm, Outcomes, arith}
 use Common.{Content, rows_by, rows_of, AreLaid, HasText, Heading, Payoffs, length, Ratio, Table, []}
 use Common.{zero, Bool, List, ◌++◌, refl, ◌*◌, ◌<◌, ◌∷◌, map, sym, ◌∙◌, ap, ℕ}
 use Rattle.gf_nfg.specs.inner.TextParts.{payoffs_text}
-use Rattle.gf_nfg.specs.declared.text.Text.{Text}
+use Rattle.gf_nfg.specs.declared.text.ToldText.{ToldText}
 use Rattle.gf_nfg.specs.declared.receive.Version.{Version}
 use Rattle.gf_nfg.proofs.lemmas.tables.Lists.{full_in_turn, no_counts, rows_in_turn}
 use Rattle.gf_nfg.proofs.lemmas.tables.Meaning.{rows-table_of}
@@ -30,7 +30,7 @@ laid_whole (suc k) n payoffs h one =
 
 -- with these lines after its heading it is the canonical text
 pub text_with : (named : Bool) (c : Content) (out : List ℕ) → IsComplete c
-    → out ≡ heading_text (names_by named (names_in c)) ++ lines_text
+    → out ≡ heading_text (frame_by named (frame_in c)) ++ lines_text
     (map row_text (rows_by c c.choices)) → out ≡ table_text (named_by named (table_of c))
 text_with named c out h e = grind (arith, rows-table_of, text_parts named (table_of c))
 
@@ -44,7 +44,7 @@ lines_end {text = text} {payoffs = payoffs} l =
     sym (append-nil text) ∙ rw (append-nil payoffs) at (l.with_more [])
 
 -- in payoff version the text is whole
-pub payoffs_written : (bytes : List ℕ) (heading : Heading) (named : Bool) (t : Text)
+pub payoffs_written : (bytes : List ℕ) (heading : Heading) (named : Bool) (t : ToldText)
     → t.version ≡ Payoffs → HasToldTable (HasText named) bytes heading t
     → (u : Table) × SpellsTable bytes u × IsWithinLimit u
     × (t.text.items ≡ table_text (named_by named u))
@@ -57,18 +57,18 @@ payoffs_written bytes heading named t is h =
       h.means.spelled,
       h.means.within,
       text_with named c t.text.items h.means.complete
-          (end ∙ ap (λ (bs : List ℕ). heading_text (names_by named (names_in c)) ++ bs) lines),
+          (end ∙ ap (λ (bs : List ℕ). heading_text (frame_by named (frame_in c)) ++ bs) lines),
     )
 
 -- in outcome version it ends before the lines
 pub record BeginsText (bytes : List ℕ) (named : Bool) (c : Content) (text : List ℕ) : Type 0 where
   pub means : MeansTable bytes c
-  pub text_is : text ≡ heading_text (names_by named (names_in c))
+  pub text_is : text ≡ heading_text (frame_by named (frame_in c))
 
 is_outcomes : (v : Version) → ¬ (v ≡ Payoffs) → v ≡ Outcomes
 is_outcomes v not = grind arith
 
-pub outcomes_begin : (bytes : List ℕ) (heading : Heading) (named : Bool) (t : Text)
+pub outcomes_begin : (bytes : List ℕ) (heading : Heading) (named : Bool) (t : ToldText)
     → ¬ (t.version ≡ Payoffs) → HasToldTable (HasText named) bytes heading t
     → BeginsText bytes named (content_of (record { heading = heading; kept = t.kept })) t.text.items
 outcomes_begin bytes heading named t not h =

@@ -2,19 +2,19 @@ use Rattle.gf_nfg.proofs.Common.{arith, rules, table_of}
 use Rattle.gf_nfg.proofs.lemmas.tables.Listed.{other, parts_kept, told_compared}
 use Rattle.gf_nfg.proofs.comparison.Comparison.is_same.Goals as goal
 
-pub returns-then-not-same_heading : goal.returns-then-not-same_heading
-returns-then-not-same_heading c = λ bytes h.
+pub returns-then-not-same_frame : goal.returns-then-not-same_frame
+returns-then-not-same_frame c = λ bytes h.
     let compared = told_compared c.args.t.now _ _ _ h c.args.named _ _
-    c.names-then-eq.ensures.is_table c.names-then-eq.ensures.names c.in_ok-names.ensures
+    c.frame-then-eq.ensures.is_table c.frame-then-eq.ensures.frame c.in_ok-frame.ensures
     (search rules) in
     (table_of (other c.args.t.now _ _ _ h), h.means.spelled, h.means.within, grind arith)
 
 pub returns-then-eq : goal.returns-then-eq
 returns-then-eq c = λ bytes h.
     let compared = told_compared c.args.t.now _ _ _ h c.args.named _ _
-    c.names-then-eq.ensures.is_table c.names-then-eq.ensures.names c.in_ok-names.ensures
+    c.frame-then-eq.ensures.is_table c.frame-then-eq.ensures.frame c.in_ok-frame.ensures
     (search rules) in
-    let same = c.same_heading.ensures.0 c.if-not-same_heading.false in
+    let same = c.same_frame.ensures.0 c.if-not-same_frame.false in
     (table_of (other c.args.t.now _ _ _ h), h.means.spelled, h.means.within, grind arith)
 
 pub returns : goal.returns

@@ -9,7 +9,7 @@ in_turn-requires c =
     let counts = counts_of_lists label_of lists in
     let kept : AreKept c.args.rows.now c.in_ok-rows.rows.items =
     search (arith, clones_are, c.in_ok-rows.ensures) in
-    rw (c.in_ok-names.ensures, c.in_ok-strategies.ensures) (parts_of_labels c.args.title
+    rw (c.in_ok-frame.ensures, c.in_ok-strategies.ensures) (parts_of_labels c.args.title
     c.args.comment c.args.players.now _ c.in_ok-rows.rows.items
     (length-map lists _ ∙ c.requires.one_list_each)
     (some_in_lists label_of lists c.requires.some_strategy)

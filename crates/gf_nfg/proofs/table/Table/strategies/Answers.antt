@@ -6,6 +6,6 @@ pub overflow_cast-result : goal.overflow_cast-result
 overflow_cast-result c =
     let t = c.self.inside in
     let h = c.self.invariant in
-    let few = own_count_within (table_with t.names t.payoffs) (c.args.i - 1) h.is_table
+    let few = own_count_within (table_with t.frame t.payoffs) (c.args.i - 1) h.is_table
     h.within in
     omega (arith, few, c.strategies.ensures)

@@ -4,9 +4,9 @@ use Rattle.gf_nfg.proofs.lemmas.tables.Places.{strategy_out}
 use Rattle.gf_nfg.proofs.table.profile.place_of.Goals.{After-strategies-count}
 use Rattle.gf_nfg.proofs.table.profile.place_of.Goals as goal
 
-player : (c : After-strategies-count) → AtPlayer c.args.names.now c.args.profile.now
+player : (c : After-strategies-count) → AtPlayer c.args.frame.now c.args.profile.now
     (c.loop-at.at - 1) c.loop-at.place c.strategies-count.result
-player c = player_before {names = c.args.names.now} c.requires.one_list_each
+player c = player_before {frame = c.args.frame.now} c.requires.one_list_each
     c.requires.some_strategy c.requires.within
     (c.if-profile-players.false ∙ c.players-players.ensures.players)
     (omega (arith, c.loop-at-test.true))

@@ -4,14 +4,14 @@ use Rattle.gf_nfg.proofs.text.canonical.text_of.Goals as goal
 
 pub returns-then-is_none-clause-rest : goal.returns-then-is_none-clause-rest
 returns-then-is_none-clause-rest c =
-    let parts = c.into_parts-names.ensures in
+    let parts = c.into_parts-frame.ensures in
     subst (λ (bs : List ℕ). IfOk c.of_table.result (λ text. text.rest ≡ bs))
-    (text_of_rows c.args.t _ _ parts.names parts.rows) c.of_table.ensures.rest
+    (text_of_rows c.args.t _ _ parts.frame parts.rows) c.of_table.ensures.rest
 
 pub returns-clause-rest : goal.returns-clause-rest
 returns-clause-rest c =
-    let parts = c.into_parts-names.ensures in
+    let parts = c.into_parts-frame.ensures in
     let begun = rw c.new-text.ensures.items at c.in_ok-write_heading.ensures.text in
     subst (λ (bs : List ℕ). IfOk c.with_rows.result (λ text. text.rest ≡ bs))
-    (ap (λ (bs : List ℕ). bs ++ lines_text (map row_text c.into_parts-names.result.1)) begun
-    ∙ text_of_rows c.args.t _ _ parts.names parts.rows) c.with_rows.ensures.rest
+    (ap (λ (bs : List ℕ). bs ++ lines_text (map row_text c.into_parts-frame.result.1)) begun
+    ∙ text_of_rows c.args.t _ _ parts.frame parts.rows) c.with_rows.ensures.rest

@@ -1,9 +1,9 @@
-use Rattle.gf_nfg.proofs.Common.{names_by, rules}
+use Rattle.gf_nfg.proofs.Common.{frame_by, rules}
 use Rattle.gf_nfg.proofs.lemmas.texts.Lists.{heading_written}
 use Rattle.gf_nfg.proofs.text.write.write_heading.Goals as goal
 
 pub returns-clause-text : goal.returns-clause-text
 returns-clause-text c =
     let lists = rw (c.lists.ensures, c.nothing.ensures) at c.in_ok-write_lists.ensures.text in
-    heading_written (names_by c.args.named c.args.names.now) _ _ _ _ _
+    heading_written (frame_by c.args.named c.args.frame.now) _ _ _ _ _
     c.in_ok-write_front.ensures.text lists (search rules) c.in_ok-write_ending.ensures.text

@@ -4,6 +4,6 @@ use Rattle.gf_nfg.proofs.text.write.write_players.Given as goal
 
 abbrev pub invariant-loop-at : goal.invariant-loop-at
 invariant-loop-at l =
-    (l.out.items ++ names_left l.names.players l.at
-    ≡ l.initial.out.items ++ names_left l.names.players 0)
+    (l.out.items ++ names_left l.frame.players l.at
+    ≡ l.initial.out.items ++ names_left l.frame.players 0)
     × Keeps l.fn.out.items l.out.items

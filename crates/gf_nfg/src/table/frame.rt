@@ -1,59 +1,57 @@
-//! Everything of a table except its payoffs: its title, its comment, its players and their
-//! strategies.
+//! A table without its payoffs.
 
 ghost use Rattle.std.specs.Prelude.{◌≡◌, ◌<◌, ◌↔◌, Some, IfOk, IsTrue, length, map, slice_get};
 ghost use Rattle.gf_token.specs.Label.{label_of};
 ghost use Rattle.gf_nfg.specs.TableParts.{own_of};
 
 use crate::table::labels::Labels;
-use crate::table::strategies::Strategies;
+use crate::table::strategies::StrategyLists;
 use gf_token::Label;
 use std::alloc::{AllocError, Global};
 use std::marker::Model;
 
-/// The title, the comment, the players' names and the labels of their strategies.
+/// A table without its payoffs: its title, its comment, its players and their strategies.
 #[derive(Drop)]
-pub(crate) struct Names {
-    /// The title and the comment.
-    heading: Labels,
+pub(crate) struct Frame {
+    title_and_comment: Labels,
     players: Labels,
-    strategies: Strategies,
+    strategies: StrategyLists,
 }
 
-impl Model for Names {
-    ghost use Rattle.gf_nfg.specs.TableParts.{AreNames, Names, names_of};
+impl Model for Frame {
+    ghost use Rattle.gf_nfg.specs.TableParts.{AreFrameParts, Frame, frame_of};
 
-    ghost Value = { Names };
+    ghost Value = { Frame };
 
-    ghost view = { λ n. names_of n.heading n.players n.strategies };
+    ghost view = { λ f. frame_of f.title_and_comment f.players f.strategies };
 
-    ghost invariant = { λ n. AreNames n.heading n.players n.strategies };
+    ghost invariant = { λ f. AreFrameParts f.title_and_comment f.players f.strategies };
 }
 
-impl Names {
+impl Frame {
     /// The players have these strategies, a list for each.
     pub(crate) fn new(
         alloc: Global,
         title: Label<'_>,
         comment: Label<'_>,
         players: &[Label<'_>],
-        strategies: Strategies,
-    ) -> Result<Names, AllocError>
+        strategies: StrategyLists,
+    ) -> Result<Frame, AllocError>
         requires { length strategies ≡ length players.now }
-        ensures { IfOk result (λ names. names ≡ record {
+        ensures { IfOk result (λ frame. frame ≡ record {
           title = label_of title.entry;
           comment = label_of comment.entry;
           players = map label_of players.now;
           strategies = strategies;
         }) }
     {
-        let mut heading = Labels::new(alloc);
-        heading.push(title)?;
-        heading.push(comment)?;
+        let mut title_and_comment = Labels::new(alloc);
+        title_and_comment.push(title)?;
+        title_and_comment.push(comment)?;
         let mut names = Labels::new(alloc);
         names.extend(players)?;
-        Ok(Names {
-            heading,
+        Ok(Frame {
+            title_and_comment,
             players: names,
             strategies,
         })
@@ -61,7 +59,11 @@ impl Names {
 
     /// How many bytes the labels have in a text, with their quotes and a byte after each.
     pub(crate) fn room(&self) -> usize {
-        let lists = [&self.heading, &self.players, self.strategies.labels()];
+        let lists = [
+            &self.title_and_comment,
+            &self.players,
+            self.strategies.labels(),
+        ];
         let mut room: usize = 0;
         for list in lists {
             room = room.saturating_add(list.size());
@@ -73,17 +75,17 @@ impl Names {
     pub(crate) fn title(&self) -> Label<'_>
         ensures { label_of result ≡ self.now.title }
     {
-        self.heading.label(0)
+        self.title_and_comment.label(0)
     }
 
     pub(crate) fn comment(&self) -> Label<'_>
         ensures { label_of result ≡ self.now.comment }
     {
-        self.heading.label(1)
+        self.title_and_comment.label(1)
     }
 
     /// Whether both have the same players with the same strategies.
-    pub(crate) fn plays_as(&self, o: &Names) -> bool
+    pub(crate) fn plays_as(&self, o: &Frame) -> bool
         ensures { IsTrue result
             ↔ ((self.now.players ≡ o.now.players) × (self.now.strategies ≡ o.now.strategies)) }
     {
@@ -107,14 +109,14 @@ impl Names {
     }
 
     /// The strategies of each player.
-    pub(crate) fn lists(&self) -> &Strategies
+    pub(crate) fn lists(&self) -> &StrategyLists
         ensures { result.now ≡ self.now.strategies }
     {
         &self.strategies
     }
 
     /// The strategies of each player, without the rest.
-    pub(crate) fn into_lists(self) -> Strategies
+    pub(crate) fn into_lists(self) -> StrategyLists
         ensures { result ≡ self.strategies }
     {
         self.strategies

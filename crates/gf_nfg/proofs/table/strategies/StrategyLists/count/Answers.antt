@@ -1,5 +1,5 @@
 use Rattle.gf_nfg.proofs.lemmas.tables.Strategies.{own_is}
-use Rattle.gf_nfg.proofs.table.strategies.Strategies.count.Goals as goal
+use Rattle.gf_nfg.proofs.table.strategies.StrategyLists.count.Goals as goal
 
 pub overflow_sub-result : goal.overflow_sub-result
 overflow_sub-result c =

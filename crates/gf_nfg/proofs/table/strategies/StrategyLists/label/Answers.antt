@@ -1,6 +1,6 @@
 use Rattle.gf_nfg.proofs.Common.{◌∙◌, arith, get_or, []}
 use Rattle.gf_nfg.proofs.lemmas.tables.Strategies.{IsOwn, has_list, own_is, own_label, within_lists}
-use Rattle.gf_nfg.proofs.table.strategies.Strategies.label.Goals as goal
+use Rattle.gf_nfg.proofs.table.strategies.StrategyLists.label.Goals as goal
 
 pub piece_at-own-requires : goal.piece_at-own-requires
 piece_at-own-requires c = within_lists _ _ _ _ _ c.self.view_is c.deref.ensures.value
