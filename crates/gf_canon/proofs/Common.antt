@@ -7,9 +7,8 @@ pub use Rattle.gf_canon.specs.GameText.{action_fields, described_fields, game_te
 pub use Rattle.gf_canon.specs.GameText.{node_text, outcome_fields, result_fields, set_fields}
 pub use Rattle.gf_canon.specs.GameText.{step_fields}
 pub use Rattle.gf_canon.specs.IsGameFile.{IsGameFile}
-pub use Rattle.gf_canon.specs.Judgement.{BeginsWithWord, IsInEitherFormat, IsJudged}
-pub use Rattle.gf_canon.specs.Judgement.{IsPlaced, IsRefused, IsRefusedWith, IsWithoutFormat}
-pub use Rattle.gf_canon.specs.Judgement.{MeansFile}
+pub use Rattle.gf_canon.specs.Judgement.{BeginsWithWord, IsInEitherFormat, IsJudged, IsPlaced}
+pub use Rattle.gf_canon.specs.Judgement.{IsRefused, IsRefusedWith, IsWithoutFormat, MeansFile}
 pub use Rattle.gf_canon.specs.NamesAside.{IsTextBy, SameAsideNames, file_by, unnamed, unnamed_game}
 pub use Rattle.gf_canon.specs.NamesAside.{unnamed_node, unnamed_table}
 pub use Rattle.gf_canon.specs.NewNumbers.{IsOnlyRenumbering, NewNumbers, new_numbers}
@@ -95,8 +94,7 @@ pub use Rattle.std.proofs.lemmas.List.{map-append, nil_from_length, take_all}
 pub use Rattle.std.proofs.lemmas.Result.{on_ok_weaker}
 pub use Rattle.std.specs.BTreeMap.{BTreeMap, get}
 pub use Rattle.std.specs.Cmp.Lexicographic.{pointwise}
-pub use Rattle.std.specs.List.{AllByRecursion, cons_option, filter_map, flat_map}
-pub use Rattle.std.specs.List.{list_any}
+pub use Rattle.std.specs.List.{AllByRecursion, cons_option, filter_map, flat_map, list_any}
 pub use Rattle.std.specs.Ordering.{is_eq, nat_cmp}
 pub use Rattle.std.specs.Prelude.{IsSome, IsTrue, MatchOption, codes, decimal, if◌then◌else◌}
 pub use Rattle.std.specs.Prelude.{is_some, nat_eq, option_map, unwrap_or, ◌==◌, ◌↔◌, ◌⊎◌}

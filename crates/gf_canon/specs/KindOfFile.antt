@@ -4,11 +4,10 @@ use Rattle.gf_canon.specs.GameFile.{GameFile}
 use Rattle.gf_canon.specs.GameFile.GameFile.{extensive, strategic}
 use Rattle.gf_canon.specs.CanonicalText.{SpellsWithin}
 use Rattle.gf_canon.specs.declared.kind.FileKind.{FileKind}
-use Rattle.gf_canon.specs.declared.kind.FileKind.TheVariants.{Strategic, Tree}
 
 abbrev pub kind_of : GameFile → FileKind
-kind_of (extensive g) = Tree
-kind_of (strategic t) = Strategic
+kind_of (extensive g) = FileKind.Tree
+kind_of (strategic t) = FileKind.Strategic
 
 -- the bytes mean a file of this kind, within the limit
 abbrev pub MeansFileOf : List ℕ → FileKind → Type 0

@@ -8,7 +8,6 @@ use Rattle.gf_canon.specs.CanonicalText.{IsTextOf}
 use Rattle.gf_canon.specs.GameFile.{GameFile, SameFile, canonical_text}
 use Rattle.gf_canon.specs.GameFile.GameFile.{extensive, strategic}
 use Rattle.gf_canon.specs.declared.sameness.Names.{Names}
-use Rattle.gf_canon.specs.declared.sameness.Names.TheVariants.{Kept, Aside}
 
 abbrev pub unnamed_node : Node → Node
 unnamed_node n = record n { name = [] }
@@ -35,8 +34,8 @@ unnamed (strategic t) = strategic (unnamed_table t)
 
 -- what counts of a file, with its names or without
 abbrev pub file_by : Names → GameFile → GameFile
-file_by Kept x = x
-file_by Aside x = unnamed x
+file_by Names.Kept x = x
+file_by Names.Aside x = unnamed x
 
 -- the bytes mean a file, and this is the canonical text of what counts of it
 abbrev pub IsTextBy : Names → List ℕ → List ℕ → Type 0

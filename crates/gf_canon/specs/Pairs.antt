@@ -9,7 +9,6 @@ use Rattle.gf_tree.specs.SameGame.{Carries, SameGame}
 use Rattle.gf_canon.specs.GameFile.{GameFile}
 use Rattle.gf_canon.specs.GameFile.GameFile.{extensive}
 use Rattle.gf_canon.specs.declared.numbering.pairs.NumberPair.{NumberPair}
-use Rattle.gf_canon.specs.declared.numbering.pairs.NumberPair.TheVariants.{Set, Outcome}
 
 -- the numbers of a player's sets, in order of first use
 abbrev pub set_numbers : Game → ℕ → List ℕ
@@ -18,11 +17,11 @@ set_numbers g player = map (λ key. key.number) (player_keys g player)
 -- each of them beside its new number
 abbrev pub set_pairs : Renumbering → Game → ℕ → List NumberPair
 set_pairs r g player =
-    map (λ number. Set player number (r.set player number)) (set_numbers g player)
+    map (λ number. NumberPair.Set player number (r.set player number)) (set_numbers g player)
 
 -- each outcome's number beside its new number, in order of first use
 abbrev pub outcome_pairs : Renumbering → Game → List NumberPair
-outcome_pairs r g = map (λ number. Outcome number (r.outcome number)) (outcome_numbers g)
+outcome_pairs r g = map (λ number. NumberPair.Outcome number (r.outcome number)) (outcome_numbers g)
 
 -- the sets of chance, who is player 0, then those of player after player, and then the outcomes
 abbrev pub renumbering_pairs : Renumbering → Game → List NumberPair

@@ -6,20 +6,19 @@ use Rattle.gf_tree.specs.Told.{Heading}
 use Rattle.gf_tree.specs.Unnamed.{unnamed_file_node}
 use Rattle.gf_canon.specs.NamesAside.{unnamed_game}
 use Rattle.gf_canon.specs.declared.sameness.Names.{Names}
-use Rattle.gf_canon.specs.declared.sameness.Names.TheVariants.{Kept, Aside}
 
 abbrev pub node_by : Names → FileNode → FileNode
-node_by Kept n = n
-node_by Aside n = unnamed_file_node n
+node_by Names.Kept n = n
+node_by Names.Aside n = unnamed_file_node n
 
 abbrev pub heading_by : Names → Heading → Heading
-heading_by Kept h = h
-heading_by Aside h = record h { title = []; comment = [] }
+heading_by Names.Kept h = h
+heading_by Names.Aside h = record h { title = []; comment = [] }
 
 abbrev pub game_by : Names → Game → Game
-game_by Kept g = g
-game_by Aside g = unnamed_game g
+game_by Names.Kept g = g
+game_by Names.Aside g = unnamed_game g
 
 abbrev pub are_kept : Names → Bool
-are_kept Kept = true
-are_kept Aside = false
+are_kept Names.Kept = true
+are_kept Names.Aside = false

@@ -8,10 +8,9 @@ use Rattle.gf_tree.specs.GameOf.{SpellsGame}
 use Rattle.gf_tree.specs.Told.{Heading, Told}
 use Rattle.gf_tree.specs.ToldGame.{HasToldGame}
 use Rattle.gf_canon.specs.declared.kind.FileKind.{FileKind}
-use Rattle.gf_canon.specs.declared.kind.FileKind.TheVariants.{Strategic, Tree}
 
 -- a receiver was told a tree, and nothing of a table
 abbrev pub IsToldFile : {T : Type 0} → (T → Heading → List Told → Type 0) → T → List ℕ → FileKind
     → Type 0
-IsToldFile holds to bytes Tree = (g : Game) × SpellsGame bytes g × HasToldGame holds to g
-IsToldFile holds to bytes Strategic = (t : Table) × SpellsTable bytes t × IsWithinLimit t
+IsToldFile holds to bytes FileKind.Tree = (g : Game) × SpellsGame bytes g × HasToldGame holds to g
+IsToldFile holds to bytes FileKind.Strategic = (t : Table) × SpellsTable bytes t × IsWithinLimit t

@@ -3,7 +3,6 @@
 ghost use Rattle.std.specs.Prelude.{◌≡◌};
 ghost use Rattle.gf_canon.specs.NewNumbers.{new_outcome_number, new_set_number};
 
-use std::alloc::Global;
 use std::collections::BTreeMap;
 use std::marker::Model;
 

@@ -13,7 +13,6 @@ ghost use Rattle.gf_canon.specs.MeaningOf.{file_of};
 ghost use Rattle.gf_canon.specs.Pairs.{ArePairs, HavePairs, outcome_pairs, renumbering_pairs};
 ghost use Rattle.gf_canon.specs.Pairs.{set_pairs};
 ghost use Rattle.gf_canon.specs.Sameness.{AreRefusedWith};
-ghost use Rattle.gf_canon.specs.declared.sameness.SameFault.TheVariants.{Memory};
 
 use crate::meaning::{Meaning, read_file};
 use crate::sameness::{Names, SameFault, same_meaning};
@@ -173,7 +172,7 @@ fn pairs_beside<P: ReceivePairs>(
     ensures untold { IfOk result (λ same. same ≡ false → to.new ≡ to.old) }
     ensures refused { IfErr result (λ fault.
         (a : List ℕ) → MeansFile a → AreRefusedWith a b.now fault) }
-    ensures untouched { IfErr result (λ fault. (to.new ≡ to.old) ⊎ ((fault ≡ Memory)
+    ensures untouched { IfErr result (λ fault. (to.new ≡ to.old) ⊎ ((fault ≡ SameFault.Memory)
         × (y : GameFile) × SpellsWithin b.now y × HavePairs (file_of first.now) y)) }
 {
     match read_file(alloc, b) {
@@ -204,7 +203,7 @@ pub fn pairs_of_files<P: ReceivePairs>(
         → (pairs : List NumberPair) × ArePairs x y pairs × P.holds to.new pairs)) }
     ensures untold { IfOk result (λ same. same ≡ false → to.new ≡ to.old) }
     ensures refused { IfErr result (AreRefusedWith a.now b.now) }
-    ensures untouched { IfErr result (λ fault. (to.new ≡ to.old) ⊎ ((fault ≡ Memory)
+    ensures untouched { IfErr result (λ fault. (to.new ≡ to.old) ⊎ ((fault ≡ SameFault.Memory)
         × (x y : GameFile) × SpellsWithin a.now x × SpellsWithin b.now y × HavePairs x y)) }
 {
     match read_file(alloc, a) {

@@ -5,7 +5,6 @@ use Rattle.gf_canon.proofs.Common.{Result, Fault, codes, IfErr, List, Span, ◌�
 use Rattle.gf_canon.proofs.Common.{Ok, ℕ}
 use Rattle.gf_canon.specs.Judgement.IsJudged.{of_extensive, of_neither, of_strategic}
 use Rattle.gf_canon.specs.declared.kind.FileKind.{FileKind}
-use Rattle.gf_canon.specs.declared.kind.FileKind.TheVariants.{Strategic, Tree}
 use Rattle.gf_canon.specs.inner.KindWord.{word_of}
 use Rattle.gf_canon.proofs.lemmas.files.EitherFormat.{placed}
 use Rattle.gf_canon.proofs.lemmas.files.Formats.{named_by_word, none_offending, two_words}
@@ -41,21 +40,21 @@ refused_at_first bytes (Ok a) h = tt
 refused_at_first bytes (Err fault) h = refused_with bytes fault (of_neither h)
 
 pub refused_game : {A : Type 0} (bytes : List ℕ) (r : Result A Fault) (kind : FileKind)
-    → kind ≡ Tree → BeginsWithWord (word_of kind) bytes
+    → kind ≡ FileKind.Tree → BeginsWithWord (word_of kind) bytes
     → IfErr r (λ fault. extensive_file.IsJudged fault.why bytes fault.span)
     → IfErr r (IsRefusedWith bytes)
 refused_game bytes (Ok a) kind is named judged = tt
-refused_game bytes (Err fault) Strategic is named judged = absurd cc
-refused_game bytes (Err fault) Tree is named judged =
+refused_game bytes (Err fault) FileKind.Strategic is named judged = absurd cc
+refused_game bytes (Err fault) FileKind.Tree is named judged =
     refused_with bytes fault (of_extensive named judged)
 
 pub refused_table : {A : Type 0} (bytes : List ℕ) (r : Result A Fault) (kind : FileKind)
-    → kind ≡ Strategic → BeginsWithWord (word_of kind) bytes
+    → kind ≡ FileKind.Strategic → BeginsWithWord (word_of kind) bytes
     → IfErr r (λ fault. strategic_file.IsJudged fault.why bytes fault.span)
     → IfErr r (IsRefusedWith bytes)
 refused_table bytes (Ok a) kind is named judged = tt
-refused_table bytes (Err fault) Tree is named judged = absurd cc
-refused_table bytes (Err fault) Strategic is named judged =
+refused_table bytes (Err fault) FileKind.Tree is named judged = absurd cc
+refused_table bytes (Err fault) FileKind.Strategic is named judged =
     refused_with bytes fault (of_strategic named judged)
 
 pub ruleset refusals = (refused_at_first, refused_game, refused_table)

@@ -4,7 +4,6 @@ use Rattle.gf_canon.proofs.Common.{subst, ◌↔◌, IsTrue, GameFile, SameFile,
 use Rattle.gf_canon.proofs.Common.{IsCanonicalText, MeansFile, SpellsWithin, SameBy, Names, Kept}
 use Rattle.gf_canon.specs.Sameness.{AreRefusedWith, LacksMemory}
 use Rattle.gf_canon.specs.declared.sameness.SameFault.{SameFault}
-use Rattle.gf_canon.specs.declared.sameness.SameFault.TheVariants.{First, Second, Memory}
 use Rattle.gf_canon.proofs.lemmas.files.Texts.{is_game_file, spells_one_file}
 use Rattle.gf_canon.proofs.lemmas.sameness.Files.{reflexive}
 use Rattle.gf_canon.proofs.lemmas.texts.ByNames.{equal_texts_by}
@@ -21,9 +20,9 @@ same_as_read names answer a b first second of_a of_b same x y of_x of_y =
 -- files that both mean something are refused only for lack of memory
 memory_alone : (a b : List ℕ) (fault : SameFault) (x y : GameFile) → SpellsWithin a x
     → SpellsWithin b y → AreRefusedWith a b fault → LacksMemory fault
-memory_alone a b (First fault) x y of_x of_y refused = refused.unless_memory x of_x
-memory_alone a b (Second fault) x y of_x of_y refused = refused.1.unless_memory y of_y
-memory_alone a b Memory x y of_x of_y refused = tt
+memory_alone a b (SameFault.First fault) x y of_x of_y refused = refused.unless_memory x of_x
+memory_alone a b (SameFault.Second fault) x y of_x of_y refused = refused.1.unless_memory y of_y
+memory_alone a b SameFault.Memory x y of_x of_y refused = tt
 
 -- the first was read
 pub same_as_first : (names : Names) (result : Result Bool SameFault) (a b : List ℕ)

@@ -1,13 +1,12 @@
 -- The text of a game spells that game, so files mean exactly the games that a file can hold.
 use Rattle.gf_canon.proofs.Common
 use Common.{IsSpellableOutcome, same_set_equality, AllByRecursion, IsSpellableSet, result_fields, ℕ}
-use Common.{used_outcomes, Decides-eqb, IsSpellable, step_fields, IsLabel}
-use Common.{option_map, outcome_at, SpellsGame, node_after, file_nodes, use_after, used_sets, set_at}
-use Common.{node_text, game_text, set_fields, same_set, FileNode, flatten, list_any}
-use Common.{in_keys, Option, nat_eq, Listed, SetKey, IsGame, subst, codes, Token, IsSet, length, []}
-use Common.{found, List, ◌++◌, Some, None, refl, Text, Bare, Node, Game, each, held, ap}
-use Common.{◌≡◌, ◌∷◌, ◌↔◌, map, sym, inl, inr, Has, IsOutcome, outcome_fields, decimal}
-use Common.{arith}
+use Common.{used_outcomes, Decides-eqb, IsSpellable, step_fields, IsLabel, option_map, outcome_at}
+use Common.{SpellsGame, node_after, file_nodes, use_after, used_sets, set_at, node_text, game_text}
+use Common.{set_fields, same_set, FileNode, flatten, list_any, in_keys, Option, nat_eq, Listed}
+use Common.{SetKey, IsGame, subst, codes, Token, IsSet, length, [], found, List, ◌++◌, Some, None}
+use Common.{refl, Text, Bare, Node, Game, each, held, ap, ◌≡◌, ◌∷◌, ◌↔◌, map, sym, inl, inr, Has}
+use Common.{IsOutcome, outcome_fields, decimal, arith}
 use Rattle.std.specs.Fmt.{digits}
 use Rattle.gf_token.specs.Grammar.{Each}
 use Rattle.gf_token.proofs.Offered.{AreSaid, Says, both, empty, fields, label, labels, line, lines}

@@ -1,10 +1,9 @@
 -- The fields of a node's line spell tokens, and these say what stands in the line.
 use Rattle.gf_canon.proofs.Common
 use Common.{described_fields, AllByRecursion, InformationSet, IsSpellableAction, if◌then◌else◌, suc}
-use Common.{outcome_fields, action_fields, mover_fields, set_fields, flat_map, IsLabel}
-use Common.{append-nil, decimal, length, Action, codes, Token, false, List, Some, None, map}
-use Common.{refl, Text, Bare, Bool, true, zero, each, all_of_each, all_weaker, ◌^◌, ◌<◌, ◌++◌, ◌≡◌}
-use Common.{◌∷◌, inl, [], ℕ}
+use Common.{outcome_fields, action_fields, mover_fields, set_fields, flat_map, IsLabel, append-nil}
+use Common.{decimal, length, Action, codes, Token, false, List, Some, None, map, refl, Text, Bare}
+use Common.{Bool, true, zero, each, all_of_each, all_weaker, ◌^◌, ◌<◌, ◌++◌, ◌≡◌, ◌∷◌, inl, [], ℕ}
 use Rattle.gf_fraction.specs.NumberText.{number_text}
 use Rattle.gf_fraction.specs.Ratio.{IsFraction}
 use Rattle.gf_fraction.proofs.Offered.{written_is_read}
