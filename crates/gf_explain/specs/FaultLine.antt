@@ -3,7 +3,6 @@ use Rattle.std.specs.Prelude.{ℕ, List, ◌++◌, codes, decimal}
 use Rattle.gf_token.specs.Code.{code_of}
 use Rattle.gf_token.specs.declared.fault.Fault.{Fault}
 use Rattle.gf_form.specs.declared.fault.FormFault.{FormFault}
-use Rattle.gf_form.specs.declared.fault.FormFault.TheVariants.{TooManyProfiles, Overflow, Memory}
 
 -- a refusal's code and place
 abbrev pub place_text : Fault → List ℕ
@@ -12,6 +11,6 @@ place_text fault = codes "E" ++ decimal (code_of fault.why)
 
 -- why a game has no table
 abbrev pub form_text : FormFault → List ℕ
-form_text TooManyProfiles = codes "too many profiles"
-form_text (Overflow profile) = codes "overflow at profile " ++ decimal profile
-form_text Memory = codes "E19"
+form_text FormFault.TooManyProfiles = codes "too many profiles"
+form_text (FormFault.Overflow profile) = codes "overflow at profile " ++ decimal profile
+form_text FormFault.Memory = codes "E19"

@@ -6,9 +6,8 @@ use Rattle.clap.specs.Simple.{App, Shape, with_rule, with_subcommand}
 use Rattle.clap.specs.Walk.{Rule, Text}
 use Rattle.gf_words.specs.declared.commands.Argument.{Argument}
 use Rattle.gf_words.specs.declared.commands.Entry.{Entry}
-use Rattle.gf_words.specs.declared.commands.Form.TheVariants.{Flag}
-use Rattle.gf_words.specs.inner.Table.{argument_rule, entry_shape, leaf, shape_for}
-use Rattle.gf_words.specs.inner.Table.{with_commands}
+use Rattle.gf_words.specs.declared.commands.Form.{Form}
+use Rattle.gf_words.specs.inner.Table.{argument_rule, entry_shape, leaf, shape_for, with_commands}
 
 abbrev nothing : {X : Type 0} → Bor (List X)
 nothing = record { ref_ptr = (0, 0); now = [] }
@@ -17,7 +16,7 @@ nothing = record { ref_ptr = (0, 0); now = [] }
 abbrev pub no_argument : Argument
 no_argument = record {
   name = nothing;
-  form = Flag;
+  form = Form.Flag;
   about = nothing;
   excludes = nothing;
   needs = nothing;

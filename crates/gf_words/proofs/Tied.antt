@@ -8,16 +8,15 @@ use Rattle.clap.specs.Walk.{Rule, Text, is_empty, is_free_arg, rule_of}
 use Rattle.clap.specs.declared.builder.arg.Arg.{Arg}
 use Rattle.clap.specs.declared.builder.arg.ArgPredicate.{ArgPredicate}
 use Rattle.gf_words.specs.declared.commands.Form.{Form}
-use Rattle.gf_words.specs.declared.commands.Form.TheVariants as form
 use Rattle.gf_words.specs.inner.Table.{form_rule}
 
 pub form_is_free : (form : Form) (name : Text) → (form_rule form name).is_free ≡ true
-form_is_free form.Flag name = refl
-form_is_free (form.FlagOrLetter letter) name = refl
-form_is_free (form.Option value) name = refl
-form_is_free form.Optional name = refl
-form_is_free form.Required name = refl
-form_is_free (form.Many value) name = refl
+form_is_free Form.Flag name = refl
+form_is_free (Form.FlagOrLetter letter) name = refl
+form_is_free (Form.Option value) name = refl
+form_is_free Form.Optional name = refl
+form_is_free Form.Required name = refl
+form_is_free (Form.Many value) name = refl
 
 -- of a conjunction that holds, what is left if two of its parts are exchanged
 two_exchanged : (a b c d b' c' : Bool) → (a && (b && (c && d))) ≡ true

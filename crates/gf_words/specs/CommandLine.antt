@@ -5,7 +5,7 @@ use Rattle.clap.specs.Lexer.{usize_max}
 use Rattle.clap.specs.Simple.{App, Shape, matches_of, new_rule, new_shape, subcommand_of}
 use Rattle.clap.specs.Takes.{takes}
 use Rattle.clap.specs.Walk.{Rule, Text}
-use Rattle.clap.specs.declared.builder.action.ArgAction.TheVariants.{SetTrue}
+use Rattle.clap.specs.declared.builder.action.ArgAction.{ArgAction}
 use Rattle.gf_words.specs.Request.{IsRequestOf, request_fits}
 use Rattle.gf_words.specs.declared.job.Job.{Job}
 use Rattle.gf_words.specs.declared.job.Request.{Request}
@@ -14,7 +14,7 @@ use Rattle.gf_words.specs.declared.job.Request.{Request}
 
 -- `--name`
 abbrev pub flag : Text → Rule
-flag name = record (new_rule name) { long = Some name; action = Some SetTrue }
+flag name = record (new_rule name) { long = Some name; action = Some ArgAction.SetTrue }
 
 -- `--name`, or a letter
 abbrev pub flag_or_letter : Text → ℕ → Rule

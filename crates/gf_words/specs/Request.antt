@@ -8,15 +8,10 @@ use Rattle.std.specs.Str.{bytes_eq}
 use Rattle.std.specs.String.{string_bytes}
 use Rattle.clap.specs.Walk.{Row, Text, all_of, first_of}
 use Rattle.gf_canon.specs.declared.sameness.Names.{Names}
-use Rattle.gf_canon.specs.declared.sameness.Names.TheVariants.{Kept, Aside}
 use Rattle.gf_words.specs.declared.job.Input.{Input}
-use Rattle.gf_words.specs.declared.job.Input.TheVariants as input
 use Rattle.gf_words.specs.declared.job.Job.{Job}
-use Rattle.gf_words.specs.declared.job.Job.TheVariants as job
 use Rattle.gf_words.specs.declared.job.LineEnd.{LineEnd}
-use Rattle.gf_words.specs.declared.job.LineEnd.TheVariants.{LineFeed, Null}
 use Rattle.gf_words.specs.declared.job.Paths.{Paths}
-use Rattle.gf_words.specs.declared.job.Paths.TheVariants as paths
 use Rattle.gf_words.specs.declared.job.Request.{Request}
 
 -- a flag is given
@@ -25,12 +20,12 @@ has_flag flag rows = option_map_or (λ t. bytes_eq t (codes "true")) (first_of f
 
 -- names count, unless they are left aside
 abbrev pub names_of : List Row → Names
-names_of rows = if has_flag (codes "no-names") rows then Aside else Kept
+names_of rows = if has_flag (codes "no-names") rows then Names.Aside else Names.Kept
 
 -- the name of an input; standard input has none
 abbrev pub input_name : Input → Option Text
-input_name input.Standard = None
-input_name (input.File name) = Some (string_bytes name)
+input_name Input.Standard = None
+input_name (Input.File name) = Some (string_bytes name)
 
 -- a word for standard input
 abbrev pub is_dash : Text → Bool
@@ -42,16 +37,16 @@ named word = if is_dash word then None else Some word
 
 -- NUL if a flag is given, otherwise a line feed
 abbrev pub end_by : Text → List Row → LineEnd
-end_by flag rows = if has_flag flag rows then Null else LineFeed
+end_by flag rows = if has_flag flag rows then LineEnd.Null else LineEnd.LineFeed
 
 -- several files are those of the list, if there is one, or those that are named, if any
 -- are; or else standard input
 abbrev pub ArePathsOf : List Row → Paths → Type 0
-ArePathsOf rows paths.Standard =
+ArePathsOf rows Paths.Standard =
     (first_of (codes "files-from") rows ≡ None) × (all_of (codes "FILES") rows ≡ None)
-ArePathsOf rows (paths.Named names) = (first_of (codes "files-from") rows ≡ None)
+ArePathsOf rows (Paths.Named names) = (first_of (codes "files-from") rows ≡ None)
     × (all_of (codes "FILES") rows ≡ Some (map string_bytes names.items))
-ArePathsOf rows (paths.List list end) =
+ArePathsOf rows (Paths.List list end) =
     (option_map named (first_of (codes "files-from") rows) ≡ Some (input_name list))
     × (end ≡ end_by (codes "null") rows)
 
@@ -65,7 +60,7 @@ abbrev pub file_named : Text → List Row → Text
 file_named id rows = unwrap_or (first_of id rows) []
 
 abbrev pub IsSameOf : List Row → Job → Type 0
-IsSameOf rows (job.Same a b map names) = (string_bytes a ≡ file_named (codes "A") rows)
+IsSameOf rows (Job.Same a b map names) = (string_bytes a ≡ file_named (codes "A") rows)
     × (string_bytes b ≡ file_named (codes "B") rows) × (map ≡ has_flag (codes "map") rows)
     × (names ≡ names_of rows)
 IsSameOf rows _ = ⊥
@@ -83,8 +78,8 @@ is_one_at_most (Some (word ∷ [])) = true
 is_one_at_most (Some words) = false
 
 abbrev pub IsCheckOf : List Row → Job → Type 0
-IsCheckOf rows (job.Check read) = IsAlone (all_of (codes "FILES") rows) read
-IsCheckOf rows (job.CheckAll files) =
+IsCheckOf rows (Job.Check read) = IsAlone (all_of (codes "FILES") rows) read
+IsCheckOf rows (Job.CheckAll files) =
     (is_one_at_most (all_of (codes "FILES") rows) ≡ false) × ArePathsOf rows files
 IsCheckOf rows _ = ⊥
 
@@ -101,12 +96,12 @@ canon_fits rows = if has_flag (codes "check") rows then not (has_flag (codes "wr
     else (not (has_flag (codes "quiet") rows) && is_one_at_most (all_of (codes "FILES") rows))
 
 abbrev pub IsCanonOf : List Row → Job → Type 0
-IsCanonOf rows (job.Canon read names) = (has_flag (codes "check") rows ≡ false)
+IsCanonOf rows (Job.Canon read names) = (has_flag (codes "check") rows ≡ false)
     × (has_flag (codes "write") rows ≡ false) × (has_flag (codes "quiet") rows ≡ false)
     × IsAlone (all_of (codes "FILES") rows) read × (names ≡ names_of rows)
-IsCanonOf rows (job.CheckCanon files names) = (has_flag (codes "check") rows ≡ true)
+IsCanonOf rows (Job.CheckCanon files names) = (has_flag (codes "check") rows ≡ true)
     × (has_flag (codes "write") rows ≡ false) × ArePathsOf rows files × (names ≡ names_of rows)
-IsCanonOf rows (job.WriteCanon files names) = (has_flag (codes "check") rows ≡ false)
+IsCanonOf rows (Job.WriteCanon files names) = (has_flag (codes "check") rows ≡ false)
     × (has_flag (codes "write") rows ≡ true) × (are_files (all_of (codes "FILES") rows) ≡ true)
     × ArePathsOf rows files × (names ≡ names_of rows)
 IsCanonOf rows _ = ⊥
@@ -121,23 +116,23 @@ IsNamed name word = bytes_eq name word ≡ true
 
 -- the job of the command of this name
 abbrev pub IsJobOf : Text → List Row → Job → Type 0
-IsJobOf name rows (job.Canon read names) =
-    (list_any (bytes_eq name) other_commands ≡ false) × IsCanonOf rows (job.Canon read names)
-IsJobOf name rows (job.CheckCanon files names) =
-    (list_any (bytes_eq name) other_commands ≡ false) × IsCanonOf rows (job.CheckCanon files names)
-IsJobOf name rows (job.WriteCanon files names) =
-    (list_any (bytes_eq name) other_commands ≡ false) × IsCanonOf rows (job.WriteCanon files names)
-IsJobOf name rows (job.Check read) =
-    IsNamed name (codes "check") × IsCheckOf rows (job.Check read)
-IsJobOf name rows (job.CheckAll files) =
-    IsNamed name (codes "check") × IsCheckOf rows (job.CheckAll files)
-IsJobOf name rows (job.Table read reduced) = IsNamed name (codes "table")
+IsJobOf name rows (Job.Canon read names) =
+    (list_any (bytes_eq name) other_commands ≡ false) × IsCanonOf rows (Job.Canon read names)
+IsJobOf name rows (Job.CheckCanon files names) =
+    (list_any (bytes_eq name) other_commands ≡ false) × IsCanonOf rows (Job.CheckCanon files names)
+IsJobOf name rows (Job.WriteCanon files names) =
+    (list_any (bytes_eq name) other_commands ≡ false) × IsCanonOf rows (Job.WriteCanon files names)
+IsJobOf name rows (Job.Check read) =
+    IsNamed name (codes "check") × IsCheckOf rows (Job.Check read)
+IsJobOf name rows (Job.CheckAll files) =
+    IsNamed name (codes "check") × IsCheckOf rows (Job.CheckAll files)
+IsJobOf name rows (Job.Table read reduced) = IsNamed name (codes "table")
     × IsInputOf (first_of (codes "FILE") rows) read × (reduced ≡ has_flag (codes "reduced") rows)
-IsJobOf name rows (job.Same a b map names) =
-    IsNamed name (codes "same") × IsSameOf rows (job.Same a b map names)
-IsJobOf name rows (job.Hash files names end) = IsNamed name (codes "hash")
+IsJobOf name rows (Job.Same a b map names) =
+    IsNamed name (codes "same") × IsSameOf rows (Job.Same a b map names)
+IsJobOf name rows (Job.Hash files names end) = IsNamed name (codes "hash")
     × ArePathsOf rows files × (names ≡ names_of rows) × (end ≡ end_by (codes "zero") rows)
-IsJobOf name rows (job.Duplicates files names end) = IsNamed name (codes "duplicates")
+IsJobOf name rows (Job.Duplicates files names end) = IsNamed name (codes "duplicates")
     × ArePathsOf rows files × (names ≡ names_of rows) × (end ≡ end_by (codes "zero") rows)
 
 abbrev pub IsRequestBy : Text → List Row → Request → Type 0

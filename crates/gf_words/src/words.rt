@@ -2,9 +2,7 @@
 
 ghost use Rattle.std.specs.Prelude.{◌≡◌, IfErr, IfOk, map, true};
 ghost use Rattle.clap.specs.Values.{kind_of};
-ghost use Rattle.clap.specs.declared.error.kind.ErrorKind.TheVariants.{OutOfMemory};
 ghost use Rattle.gf_words.specs.CommandLine.{IsJobIn, IsRequestIn, are_taken};
-ghost use Rattle.gf_words.specs.declared.fault.WordsFault.TheVariants.{Memory};
 
 use crate::fault::WordsFault;
 use crate::job::{Job, Request};
@@ -47,7 +45,7 @@ fn text_of(alloc: Global, error: &Error, words: &[&str]) -> Result<String, Alloc
 }
 
 fn fault_of(alloc: Global, error: &Error, words: &[&str]) -> WordsFault
-    ensures { kind_of error.now ≡ OutOfMemory → result ≡ Memory }
+    ensures { kind_of error.now ≡ ErrorKind.OutOfMemory → result ≡ WordsFault.Memory }
 {
     match error.kind() {
         ErrorKind::OutOfMemory => WordsFault::Memory,
@@ -67,7 +65,7 @@ fn fault_of(alloc: Global, error: &Error, words: &[&str]) -> WordsFault
 pub fn parse_request(alloc: Global, words: &[&str]) -> Result<Request, WordsFault>
     ensures request { IfOk result (IsRequestIn (map (λ word. word.now) words.now)) }
     ensures taken { are_taken (map (λ word. word.now) words.now) ≡ true
-        → IfErr result (λ fault. fault ≡ Memory) }
+        → IfErr result (λ fault. fault ≡ WordsFault.Memory) }
 {
     let program = gamefile(alloc)?;
     match program.try_get_matches_from(words) {
@@ -95,7 +93,7 @@ pub fn parse_request(alloc: Global, words: &[&str]) -> Result<Request, WordsFaul
 pub fn parse_words(alloc: Global, words: &[&str]) -> Result<Job, WordsFault>
     ensures job { IfOk result (IsJobIn (map (λ word. word.now) words.now)) }
     ensures taken { are_taken (map (λ word. word.now) words.now) ≡ true
-        → IfErr result (λ fault. fault ≡ Memory) }
+        → IfErr result (λ fault. fault ≡ WordsFault.Memory) }
 {
     match parse_request(alloc, words) {
         Ok(request) => Ok(request.job),

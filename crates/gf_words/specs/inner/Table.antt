@@ -6,15 +6,14 @@ use Rattle.gf_words.specs.CommandLine.{command, flag, flag_or_letter, many, opti
 use Rattle.gf_words.specs.declared.commands.Argument.{Argument}
 use Rattle.gf_words.specs.declared.commands.Entry.{Entry}
 use Rattle.gf_words.specs.declared.commands.Form.{Form}
-use Rattle.gf_words.specs.declared.commands.Form.TheVariants as form
 
 abbrev pub form_rule : Form → Text → Rule
-form_rule form.Flag name = flag name
-form_rule (form.FlagOrLetter letter) name = flag_or_letter name letter
-form_rule (form.Option value) name = option name
-form_rule form.Optional name = new_rule name
-form_rule form.Required name = required name
-form_rule (form.Many value) name = many name
+form_rule Form.Flag name = flag name
+form_rule (Form.FlagOrLetter letter) name = flag_or_letter name letter
+form_rule (Form.Option value) name = option name
+form_rule Form.Optional name = new_rule name
+form_rule Form.Required name = required name
+form_rule (Form.Many value) name = many name
 
 abbrev pub argument_rule : Argument → Rule
 argument_rule argument = record (form_rule argument.form argument.name.now) {
