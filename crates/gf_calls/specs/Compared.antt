@@ -7,12 +7,11 @@ use Rattle.gf_canon.specs.SameBy.{SameBy}
 use Rattle.gf_canon.specs.declared.sameness.Names.{Names}
 use Rattle.gf_calls.specs.Refused.{AreRefusedAs, Refusal}
 use Rattle.gf_calls.specs.declared.status.Status.{Status}
-use Rattle.gf_calls.specs.declared.status.Status.TheVariants.{Different, Done, Misuse}
 
 -- the status of the answer whether two files mean the same
 abbrev pub same_status : Bool → Status
-same_status true = Done
-same_status false = Different
+same_status true = Status.Done
+same_status false = Status.Different
 
 -- both mean files, and the answer says whether they are the same
 pub record IsSameAnswer (names : Names) (a b : List ℕ) (same : Bool) : Type 0 where
@@ -31,4 +30,4 @@ pub data IsCompared (names : Names) (a b : List ℕ) (old new : Refusal) (status
 -- the same, with names as the flags say; other flags are not understood
 abbrev pub IsComparedBy : Option Names → List ℕ → List ℕ → Refusal → Refusal → Status → Type 0
 IsComparedBy (Some names) a b old new status = IsCompared names a b old new status
-IsComparedBy None a b old new status = (status ≡ Misuse) × (new ≡ old)
+IsComparedBy None a b old new status = (status ≡ Status.Misuse) × (new ≡ old)

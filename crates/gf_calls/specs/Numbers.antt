@@ -3,30 +3,24 @@ use Rattle.std.specs.Prelude.{◌≡◌, ℕ, Option, Some, None, nat_eq, if◌t
 use Rattle.gf_token.specs.Code.{code_of}
 use Rattle.gf_token.specs.declared.fault.Fault.{Fault}
 use Rattle.gf_token.specs.declared.fault.What.{What}
-use Rattle.gf_token.specs.declared.fault.What.TheVariants as what
 use Rattle.gf_token.specs.declared.fault.Why.{Why}
-use Rattle.gf_token.specs.declared.fault.Why.TheVariants as why
 use Rattle.gf_canon.specs.declared.kind.FileKind.{FileKind}
-use Rattle.gf_canon.specs.declared.kind.FileKind.TheVariants as kind
 use Rattle.gf_canon.specs.declared.sameness.Names.{Names}
-use Rattle.gf_canon.specs.declared.sameness.Names.TheVariants as names
 use Rattle.gf_calls.specs.declared.fault.FaultNumbers.{FaultNumbers}
 use Rattle.gf_form.specs.declared.forms.Strategies.{Strategies}
-use Rattle.gf_form.specs.declared.forms.Strategies.TheVariants as strategies
 use Rattle.gf_calls.specs.declared.status.Status.{Status}
-use Rattle.gf_calls.specs.declared.status.Status.TheVariants as status
 
 -- the number of what a call answers; no call answers 4, which in the program means that a file
 -- failed
 abbrev pub status_number : Status → ℕ
-status_number status.Done = 0
-status_number status.Different = 1
-status_number status.Refused = 2
-status_number status.Misuse = 3
-status_number status.OutOfMemory = 5
-status_number status.TooManyProfiles = 6
-status_number status.Overflow = 7
-status_number status.TooSmall = 8
+status_number Status.Done = 0
+status_number Status.Different = 1
+status_number Status.Refused = 2
+status_number Status.Misuse = 3
+status_number Status.OutOfMemory = 5
+status_number Status.TooManyProfiles = 6
+status_number Status.Overflow = 7
+status_number Status.TooSmall = 8
 
 -- a call returned the number of a status of which this holds
 abbrev pub Answers : ℕ → (Status → Type 0) → Type 0
@@ -34,26 +28,26 @@ Answers result Is = (status : Status) × (result ≡ status_number status) × Is
 
 -- the number of a kind of file; 0 is the number of none
 abbrev pub kind_number : FileKind → ℕ
-kind_number kind.Tree = 1
-kind_number kind.Strategic = 2
+kind_number FileKind.Tree = 1
+kind_number FileKind.Strategic = 2
 
 -- what was expected; 0 stands for nothing
 abbrev pub what_number : What → ℕ
-what_number what.Format = 1
-what_number what.Version = 2
-what_number what.Letter = 3
-what_number what.Text = 4
-what_number what.Opening = 5
-what_number what.Closing = 6
-what_number what.Number = 7
-what_number what.Index = 8
-what_number what.Strategies = 9
-what_number what.Node = 10
-what_number what.End = 11
+what_number What.Format = 1
+what_number What.Version = 2
+what_number What.Letter = 3
+what_number What.Text = 4
+what_number What.Opening = 5
+what_number What.Closing = 6
+what_number What.Number = 7
+what_number What.Index = 8
+what_number What.Strategies = 9
+what_number What.Node = 10
+what_number What.End = 11
 
 -- for an E3, what was expected
 abbrev pub expected_number : Why → ℕ
-expected_number (why.Expected what) = what_number what
+expected_number (Why.Expected what) = what_number what
 expected_number _ = 0
 
 -- a refusal, its place, and what was expected
@@ -67,10 +61,10 @@ fault_numbers fault = record {
 
 -- the names that count, by a call's flags
 abbrev pub names_by : ℕ → Option Names
-names_by flags = if nat_eq flags 0 then Some names.Kept
-    else if nat_eq flags 1 then Some names.Aside else None
+names_by flags = if nat_eq flags 0 then Some Names.Kept
+    else if nat_eq flags 1 then Some Names.Aside else None
 
 -- the strategies of a table, by a call's flags
 abbrev pub strategies_by : ℕ → Option Strategies
-strategies_by flags = if nat_eq flags 0 then Some strategies.Pure
-    else if nat_eq flags 2 then Some strategies.Reduced else None
+strategies_by flags = if nat_eq flags 0 then Some Strategies.Pure
+    else if nat_eq flags 2 then Some Strategies.Reduced else None

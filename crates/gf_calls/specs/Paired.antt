@@ -7,7 +7,6 @@ use Rattle.gf_calls.specs.Pairs.{ArePairs}
 use Rattle.gf_calls.specs.Refused.{AreRefusedAs, Refusal}
 use Rattle.gf_calls.specs.declared.pair.Pair.{Pair}
 use Rattle.gf_calls.specs.declared.status.Status.{Status}
-use Rattle.gf_calls.specs.declared.status.Status.TheVariants.{Different}
 
 -- what the call can write: the buffer, how many pairs there are, and a refusal
 pub record PairsOutput : Type 0 where
@@ -23,6 +22,6 @@ pub data IsPaired (a b : List ℕ) (old new : PairsOutput) (status : Status) : T
       → IsHandedOut pairs old.out new.out new.needed status → new.refusal ≡ old.refusal
       → IsPaired a b old new status
   different : (x y : GameFile) → SpellsWithin a x → SpellsWithin b y → ¬ (SameFile x y)
-      → status ≡ Different → new ≡ old → IsPaired a b old new status
+      → status ≡ Status.Different → new ≡ old → IsPaired a b old new status
   refused : AreRefusedAs a b old.refusal new.refusal status
       → new ≡ record old { refusal = new.refusal } → IsPaired a b old new status

@@ -2,17 +2,15 @@
 use Rattle.std.specs.Prelude.{◌≡◌, ℕ, List}
 use Rattle.gf_token.specs.declared.fault.Fault.{Fault}
 use Rattle.gf_token.specs.declared.fault.Why.{Why}
-use Rattle.gf_token.specs.declared.fault.Why.TheVariants as why
 use Rattle.gf_canon.specs.Judgement.{IsRefusedWith, MeansFile}
 use Rattle.gf_calls.specs.Numbers.{fault_numbers}
 use Rattle.gf_calls.specs.declared.fault.FaultNumbers.{FaultNumbers}
 use Rattle.gf_calls.specs.declared.status.Status.{Status}
-use Rattle.gf_calls.specs.declared.status.Status.TheVariants.{Refused, OutOfMemory}
 
 -- running out of memory is not a fault of the file
 abbrev pub refusal_status : Why → Status
-refusal_status why.Memory = OutOfMemory
-refusal_status _ = Refused
+refusal_status Why.Memory = Status.OutOfMemory
+refusal_status _ = Status.Refused
 
 -- the bytes are refused, and these are the status of the refusal and its numbers
 pub record IsRefusedAs (bytes : List ℕ) (status : Status) (numbers : FaultNumbers) : Type 0 where
@@ -32,5 +30,5 @@ pub data AreRefusedAs (a b : List ℕ) (old new : Refusal) (status : Status) : T
   first : IsRefusedAs a status new.numbers → new.which ≡ 0 → AreRefusedAs a b old new status
   second : MeansFile a → IsRefusedAs b status new.numbers → new.which ≡ 1
       → AreRefusedAs a b old new status
-  out_of_memory : status ≡ OutOfMemory → MeansFile a → MeansFile b → new ≡ old
+  out_of_memory : status ≡ Status.OutOfMemory → MeansFile a → MeansFile b → new ≡ old
       → AreRefusedAs a b old new status

@@ -9,14 +9,11 @@ use Rattle.gf_canon.specs.CanonicalText.{SpellsWithin}
 use Rattle.gf_canon.specs.Judgement.{MeansFile}
 use Rattle.gf_form.specs.Forms.{HasFewPlayers, IsFormOf, IsWithoutForm}
 use Rattle.gf_form.specs.declared.fault.FormFault.{FormFault}
-use Rattle.gf_form.specs.declared.fault.FormFault.TheVariants as form
 use Rattle.gf_form.specs.declared.forms.Strategies.{Strategies}
 use Rattle.gf_calls.specs.Handed.{IsHandedOut}
 use Rattle.gf_calls.specs.Refused.{IsRefusedAs}
 use Rattle.gf_calls.specs.declared.fault.FaultNumbers.{FaultNumbers}
 use Rattle.gf_calls.specs.declared.status.Status.{Status}
-use Rattle.gf_calls.specs.declared.status.Status.TheVariants.{Misuse, OutOfMemory}
-use Rattle.gf_calls.specs.declared.status.Status.TheVariants.{Overflow, TooManyProfiles}
 
 -- the table of a file: for a game its form, and for a table the table itself
 abbrev pub IsTableOfFile : Strategies → GameFile → Table → Type 0
@@ -33,13 +30,13 @@ pub record IsTableText (strategies : Strategies) (bytes text : List ℕ) : Type 
 
 -- what is answered if a game has no table
 abbrev pub form_status : FormFault → Status
-form_status form.TooManyProfiles = TooManyProfiles
-form_status (form.Overflow profile) = Overflow
-form_status form.Memory = OutOfMemory
+form_status FormFault.TooManyProfiles = Status.TooManyProfiles
+form_status (FormFault.Overflow profile) = Status.Overflow
+form_status FormFault.Memory = Status.OutOfMemory
 
 -- the number of the profile that overflows; without one, the number from before
 abbrev pub profile_of : FormFault → ℕ → ℕ
-profile_of (form.Overflow at) profile = at
+profile_of (FormFault.Overflow at) profile = at
 profile_of _ profile = profile
 
 -- what the call can write: the buffer, the length of the text, the numbers of a refusal, and the
@@ -55,7 +52,7 @@ pub data IsMadeText (t : Table) (old new : List ℕ) (before needed : ℕ) (stat
     : Type 0 where
   made : IsHandedOut (table_text t) old new needed status
       → IsMadeText t old new before needed status
-  not_made : status ≡ OutOfMemory → new ≡ old → needed ≡ before
+  not_made : status ≡ Status.OutOfMemory → new ≡ old → needed ≡ before
       → IsMadeText t old new before needed status
 
 -- The text of the table is handed out; or the bytes are refused; or they mean a game that has no
@@ -74,11 +71,11 @@ pub data IsTabled (strategies : Strategies) (bytes : List ℕ) (old new : TableO
       → new ≡ record old { profile = profile_of fault old.profile }
       → IsTabled strategies bytes old new status
   too_many_players : (g : Game) → SpellsWithin bytes (extensive g) → ¬ (HasFewPlayers g)
-      → status ≡ Misuse → new ≡ old → IsTabled strategies bytes old new status
-  out_of_memory : status ≡ OutOfMemory → MeansFile bytes → new ≡ old
+      → status ≡ Status.Misuse → new ≡ old → IsTabled strategies bytes old new status
+  out_of_memory : status ≡ Status.OutOfMemory → MeansFile bytes → new ≡ old
       → IsTabled strategies bytes old new status
 
 -- the same, with strategies as the flags say; other flags are not understood
 abbrev pub IsTabledBy : Option Strategies → List ℕ → TableOutput → TableOutput → Status → Type 0
 IsTabledBy (Some strategies) bytes old new status = IsTabled strategies bytes old new status
-IsTabledBy None bytes old new status = (status ≡ Misuse) × (new ≡ old)
+IsTabledBy None bytes old new status = (status ≡ Status.Misuse) × (new ≡ old)

@@ -9,7 +9,6 @@ use Rattle.gf_calls.specs.Handed.{IsHandedOut}
 use Rattle.gf_calls.specs.Refused.{IsRefusedAs}
 use Rattle.gf_calls.specs.declared.fault.FaultNumbers.{FaultNumbers}
 use Rattle.gf_calls.specs.declared.status.Status.{Status}
-use Rattle.gf_calls.specs.declared.status.Status.TheVariants.{Misuse, OutOfMemory}
 
 -- the SHA-256 digest of the file's canonical text, in hexadecimal digits
 pub record IsHashBy (names : Names) (bytes hash : List ℕ) : Type 0 where
@@ -31,7 +30,7 @@ pub data IsWritten (IsText : List ℕ → Type 0) (bytes : List ℕ) (old new : 
       → new.numbers ≡ old.numbers → IsWritten IsText bytes old new status
   refused : IsRefusedAs bytes status new.numbers → new ≡ record old { numbers = new.numbers }
       → IsWritten IsText bytes old new status
-  out_of_memory : status ≡ OutOfMemory → MeansFile bytes → new ≡ old
+  out_of_memory : status ≡ Status.OutOfMemory → MeansFile bytes → new ≡ old
       → IsWritten IsText bytes old new status
 
 -- the same, with names as the flags say; other flags are not understood
@@ -39,4 +38,4 @@ abbrev pub IsWrittenBy : (Names → List ℕ → List ℕ → Type 0) → Option
     → TextOutput → TextOutput → Status → Type 0
 IsWrittenBy IsText (Some names) bytes old new status =
     IsWritten (IsText names bytes) bytes old new status
-IsWrittenBy IsText None bytes old new status = (status ≡ Misuse) × (new ≡ old)
+IsWrittenBy IsText None bytes old new status = (status ≡ Status.Misuse) × (new ≡ old)

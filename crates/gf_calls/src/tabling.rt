@@ -6,8 +6,7 @@ ghost use Rattle.gf_canon.specs.GameFile.GameFile.{extensive};
 ghost use Rattle.gf_canon.specs.CanonicalText.{SpellsWithin};
 ghost use Rattle.gf_canon.specs.MeaningOf.{file_of};
 ghost use Rattle.gf_calls.specs.Numbers.{strategies_by};
-ghost use Rattle.gf_calls.specs.Tabled.{IsMadeText, IsTabled};
-ghost use Rattle.gf_calls.specs.Tabled.{IsTabledBy, form_status, profile_of};
+ghost use Rattle.gf_calls.specs.Tabled.{IsMadeText, IsTabled, IsTabledBy, form_status, profile_of};
 
 use crate::fault::{FaultNumbers, tell};
 use crate::flags::strategies_by;
