@@ -7,10 +7,9 @@ ghost use Rattle.gf_nfg.specs.Profiles.{product};
 ghost use Rattle.gf_tree.specs.IsGame.{IsGame};
 ghost use Rattle.gf_form.specs.inner.strategies.Counted.{AreCounts};
 ghost use Rattle.gf_form.specs.inner.reduced.Firsts.{AreFirsts, AreFirstsOf};
-ghost use Rattle.gf_form.specs.inner.reduced.OwnDigits.{digits_from};
 ghost use Rattle.gf_form.specs.inner.reduced.Relevance.{FindRelevance};
 ghost use Rattle.gf_form.specs.inner.reduced.Search.{AreFirstBelow, AreFoundTo, AreOwn};
-ghost use Rattle.gf_form.specs.inner.reduced.Search.{IsSearched};
+ghost use Rattle.gf_form.specs.inner.reduced.Search.{IsPlayer, IsSearched};
 ghost use Rattle.gf_form.specs.Reduced.{reduced_labels};
 ghost use Rattle.gf_form.specs.Strategies.{action_counts, players_of, strategies};
 
@@ -116,9 +115,8 @@ impl Search {
         number: u32,
         count: u32,
     ) -> Result<(), AllocError>
-        requires is_game { IsGame player.now.game.now }
-        requires below { IsSearched player.now.game.now player.now.number player.now.digits.items
-            digits.now level.now depth number count }
+        requires player { IsPlayer player.now }
+        requires below { IsSearched player.now digits.now level.now depth number count }
         requires found { AreFoundTo player.now.game.now player.now.number self.old.numbers.items
             number }
         ensures found { OnOk result (AreFoundTo player.now.game.now player.now.number
@@ -186,11 +184,7 @@ fn first_numbers(
     player: &Player<'_, '_>,
     visits: &[Visit],
 ) -> Result<Vec<u32>, AllocError>
-    requires is_game { IsGame player.now.game.now }
-    requires digits { player.now.digits.items
-        ≡ digits_from 0 (action_counts player.now.game.now player.now.number) }
-    requires whole { player.now.whole
-        ≡ product (action_counts player.now.game.now player.now.number) }
+    requires player { IsPlayer player.now }
     requires visits { FindRelevance player.now.game.now player.now.number visits.now }
     ensures { IfOk result (λ numbers. AreFirstsOf player.now.game.now numbers.items
         player.now.number) }

@@ -4,16 +4,12 @@ ghost use Rattle.std.specs.Prelude.{◌≡◌, ◌≤◌, ◌<◌, ◌/◌, ◌%
 ghost use Rattle.std.specs.Prelude.{take};
 ghost use Rattle.std.specs.List.{AllByRecursion};
 ghost use Rattle.std.specs.List.Sorted.{IsPermutation};
-ghost use Rattle.gf_nfg.specs.Profiles.{product};
-ghost use Rattle.gf_tree.specs.IsGame.{IsGame};
 ghost use Rattle.gf_form.specs.Reduced.{reduced_labels};
-ghost use Rattle.gf_form.specs.Strategies.{action_counts};
 ghost use Rattle.gf_form.specs.inner.reduced.Firsts.{AreFirstsOf};
-ghost use Rattle.gf_form.specs.inner.reduced.OwnDigits.{digits_from};
 ghost use Rattle.gf_form.specs.inner.reduced.Relevance.{FindRelevance};
 ghost use Rattle.gf_form.specs.inner.reduced.Rows.{AreGiven, AreTold};
 ghost use Rattle.gf_form.specs.inner.reduced.Rows.{HasRow, IsPlain};
-ghost use Rattle.gf_form.specs.inner.reduced.Search.{ChooseInTurn};
+ghost use Rattle.gf_form.specs.inner.reduced.Search.{ChooseInTurn, IsPlayer};
 ghost use Rattle.gf_form.specs.declared.reduced.labels.Found.{Found};
 
 use crate::reduced::digits::OwnDigit;
@@ -212,11 +208,7 @@ pub(crate) fn labels_of(
     visits: &[Visit],
     numbers: &[u32],
 ) -> Result<Labels, AllocError>
-    requires is_game { IsGame player.now.game.now }
-    requires counts { player.now.counts.now ≡ action_counts player.now.game.now player.now.number }
-    requires whole { player.now.whole ≡ product player.now.counts.now }
-    requires digits { player.now.digits.items
-        ≡ digits_from 0 (action_counts player.now.game.now player.now.number) }
+    requires player { IsPlayer player.now }
     requires visits { FindRelevance player.now.game.now player.now.number visits.now }
     requires firsts { AreFirstsOf player.now.game.now numbers.now player.now.number }
     ensures { IfOk result
@@ -244,9 +236,7 @@ fn write_labels(
     numbers: &[u32],
     relevance: &Relevance,
 ) -> Result<Labels, AllocError>
-    requires is_game { IsGame player.now.game.now }
-    requires counts { player.now.counts.now ≡ action_counts player.now.game.now player.now.number }
-    requires whole { player.now.whole ≡ product player.now.counts.now }
+    requires player { IsPlayer player.now }
     requires firsts { AreFirstsOf player.now.game.now numbers.now player.now.number }
     requires room { length relevance.now.row_of.items ≡ length numbers.now }
     requires rows { (place : ℕ) → place < length numbers.now → HasRow player.now.game.now

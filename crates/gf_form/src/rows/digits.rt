@@ -137,7 +137,8 @@ impl Digits {
         let mut digits = Vec::new(alloc);
         let mut values = 1;
         let mut choices = 1;
-        for own in &counts.actions {
+        for place in 0..counts.actions.len() {
+            let (own, _) = counts.of_player(place);
             let (own_steps, more) = put_digits(alloc, own, values, &mut digits)?.unwrap();
             values = more;
             steps.push(own_steps)?;

@@ -204,54 +204,15 @@ module _ (R : List ℕ → List Ratio → Type 0) where
         right = grind (arith, take-suc, add-one, all_zipped_more);
       }
 
-  counted : (n : ℕ) (rows : List (List Ratio)) → AllByRecursion (λ row. length row ≡ n) rows
-      → length (flat_map (λ row. row) rows) ≡ length rows * n
-  counted n [] h = omega arith
-  counted n (row ∷ rows) h = grind (arith, length-append, suc-mul, counted n rows h.1)
-
-  -- if each row has this many
-  pub rows_counted : (n : ℕ) → ((p : List ℕ) (row : List Ratio) → R p row → length row ≡ n)
-      → (ps : List (List ℕ)) (payoffs : List Ratio) → AreRowsAt R ps payoffs
-      → length payoffs ≡ length ps * n
-  rows_counted n each ps payoffs h = grind (arith, counted, all_right, as_many)
-
-  -- if all items of each row are fractions
-  pub rows_fractions : ((p : List ℕ) (row : List Ratio) → R p row → AllByRecursion IsFraction row)
-      → (ps : List (List ℕ)) (payoffs : List Ratio) → AreRowsAt R ps payoffs
-      → AllByRecursion IsFraction payoffs
-  rows_fractions each ps payoffs h = grind (arith, all_joined, all_right)
-
-  -- the table of rows that are right is a form
-  pub form_by_rows : (labels : ℕ → List (List ℕ)) (g : Game) (t : Table) (payoffs : List Ratio)
-      → ((p : List ℕ) (row : List Ratio) → R p row → length row ≡ length g.players)
-      → IsTableOf t g.title g.comment g.players (map labels (players_of g)) payoffs
-      → AreRowsAt R (form_profiles labels g) payoffs → IsFormWith labels R g t
-  form_by_rows labels g t payoffs each made h =
-      let n = length g.players in
-      let ps = form_profiles labels g in
-      let as_rows : length (rows t) ≡ length h.rows = grind (arith, length-map, as_many) in
-      let same : rows t ≡ h.rows =
-      same_rows n (rows t) h.rows
-      (subst (λ (players : List (List ℕ)). AllByRecursion (λ row. length row ≡ length players)
-      (rows t)) made.players_are made.is_table.one_payoff_each)
-      (all_right R (λ row. length row ≡ n) each ps h.rows h.right) as_rows
-      (made.payoffs_are ∙ h.joined) in
-      grind (arith, zip_of_one)
-
--- ---- rows of payoffs
+counted : (n : ℕ) (rows : List (List Ratio)) → AllByRecursion (λ row. length row ≡ n) rows
+    → length (flat_map (λ row. row) rows) ≡ length rows * n
+counted n [] h = omega arith
+counted n (row ∷ rows) h = grind (arith, length-append, suc-mul, counted n rows h.1)
 
 all_first : {A B : Type 0} (P : A → Type 0) (Q : A → B → Type 0) (xs : List A) (ys : List B)
     → AllZip (λ x y. P x × Q x y) xs ys → AllByRecursion P xs
 all_first P Q (x ∷ xs) (y ∷ ys) h = (h.0.0, all_first P Q xs ys h.1)
 all_first P Q xs ys h = grind arith
-
-module _ (g : Game) (choices : SetKey → ℕ) (row : List Ratio)
-    (paid : ArePayoffs g choices row) where
-  full_row : length row ≡ length g.players
-  full_row = grind (arith, as_many, length-numbers_from)
-
-  row_fractions : AllByRecursion IsFraction row
-  row_fractions = all_first IsFraction _ row (players_of g) paid
 
 -- ---- labels and rows of a form
 
@@ -262,7 +223,11 @@ module _ (labels : ℕ → List (List ℕ)) (R : List ℕ → List Ratio → Typ
     × ArePayoffs g choices row)
     (right : AreRowsAt R ps payoffs) where
   each_full : (p : List ℕ) (row : List Ratio) → R p row → length row ≡ length g.players
-  each_full p row h = let by = paid p row h in full_row g by.0 row by.1
+  each_full p row h = as_many _ row (players_of g) (paid p row h).1
+      ∙ length-numbers_from 1 (length g.players)
+
+  each_fraction : (p : List ℕ) (row : List Ratio) → R p row → AllByRecursion IsFraction row
+  each_fraction p row h = all_first IsFraction _ row (players_of g) (paid p row h).1
 
   profiles_counted : product (map length all) ≡ length ps
   profiles_counted = cc (named, same, length-profiles (map length (map labels (players_of g))))
@@ -273,12 +238,20 @@ module _ (labels : ℕ → List (List ℕ)) (R : List ℕ → List Ratio → Typ
     one_list_each = ap length named ∙ as_many_players g labels;
     some_strategy = grind (arith, all_mapped (λ own. 0 < length own) labels (players_of g) some);
     profiles = omega (arith, profiles_counted, few);
-    fractions = rows_fractions R (λ p row h. let by = paid p row h in row_fractions g by.0 row by.1)
-        ps payoffs right;
-    rows = rows_counted R (length g.players) each_full ps payoffs right
-        ∙ ap (λ (n : ℕ). n * length g.players) (sym profiles_counted);
+    fractions = grind (arith, all_joined, all_right, each_fraction);
+    rows = grind (arith, counted, all_right, as_many, each_full, profiles_counted);
   }
 
   pub form_made : (t : Table) → IsTableOf t g.title g.comment g.players all payoffs
       → IsFormWith labels R g t
-  form_made t made = form_by_rows R labels g t payoffs each_full (rw (← named) made) (rw same right)
+  form_made t made =
+      let n = length g.players in
+      let as_rows : length (rows t) ≡ length right.rows =
+      grind (arith, length-map, as_many, named, same) in
+      let are : rows t ≡ right.rows =
+      same_rows n (rows t) right.rows
+      (subst (λ (players : List (List ℕ)). AllByRecursion (λ row. length row ≡ length players)
+      (rows t)) made.players_are made.is_table.one_payoff_each)
+      (all_right R (λ row. length row ≡ n) each_full ps right.rows right.right) as_rows
+      (made.payoffs_are ∙ right.joined) in
+      grind (arith, zip_of_one, named, same)

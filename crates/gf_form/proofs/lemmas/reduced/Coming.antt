@@ -2,19 +2,19 @@
 -- player with one strategy, who has one action at each. And strategies that agree with the same
 -- plays reduce to the same one.
 use Rattle.gf_form.proofs.Common
-use Common.{and-or_distrib_left, Any-from_list_any, eq-one_of_dvd-one, filter_map-append, all_parts}
+use Common.{and-or_distrib_left, Any-from_list_any, eq-one_of_dvd-one, filter_map-append, Contains}
 use Common.{same_set_equality, sets_by_first_use, list_any-append, AllByRecursion, InformationSet}
-use Common.{reduced_labels, strategy_label, action_counts, dvd-mul_right, if◌then◌else◌, HasActions}
-use Common.{is_own_choice, option_map_or, reduced_label, relevant_sets, visit_handing, dvd-mul_left}
-use Common.{AreFirstsOf, HasChildren, IsSpellable, MatchOption, all_choices, descent_all, and_parts}
-use Common.{flatten_all, is_relevant, mapped_from, player_keys, cases_Bool, false≢true, filter_map}
-use Common.{get_or-map, length-map, option_map, plays_from, strategies, choice_at, from_node, Trees}
-use Common.{is_chosen, of_filter, used_sets, Contains, and_from, choosing, comes_to, contains, Bool}
-use Common.{eqb-true, in_right, list_all, list_any, map_same, same_set, was_used, descent, flatten}
-use Common.{has_map, in_left, product, reduced, stop_at, IsGame, Option, SetKey, agrees, branch, []}
-use Common.{get_or, length, set_at, arith, count, false, plays, subst, Game, List, Node, None, Play}
-use Common.{Some, Step, Stop, Tree, more, none, refl, true, ◌&&◌, ◌==◌, Has, has, inl, inr, map, ap}
-use Common.{suc, sym, ◌*◌, ◌+◌, ◌<◌, ◌∙◌, ◌∷◌, ◌≡◌, ◌≤◌, ℕ}
+use Common.{reduced_labels, strategy_label, action_counts, dvd-mul_right, if◌then◌else◌, all_parts}
+use Common.{is_own_choice, option_map_or, reduced_label, relevant_sets, visit_handing, AreFirstsOf}
+use Common.{dvd-mul_left, HasChildren, IsSpellable, MatchOption, all_choices, descent_all, descent}
+use Common.{flatten_all, is_relevant, mapped_from, player_keys, HasActions, cases_Bool, false≢true}
+use Common.{filter_map, get_or-map, length-map, option_map, plays_from, strategies, and_parts, Has}
+use Common.{choice_at, from_node, is_chosen, of_filter, used_sets, and_from, choosing, comes_to, ℕ}
+use Common.{contains, eqb-true, in_right, list_all, list_any, map_same, same_set, was_used, IsGame}
+use Common.{flatten, has_map, in_left, product, reduced, stop_at, Listed, Option, SetKey, agrees}
+use Common.{branch, get_or, length, set_at, Trees, arith, count, false, plays, subst, Bool, Game}
+use Common.{List, Node, None, Play, Some, Step, Stop, Tree, more, none, refl, true, ◌&&◌, ◌==◌, []}
+use Common.{has, inl, inr, map, suc, sym, ◌*◌, ◌+◌, ◌<◌, ◌∙◌, ◌∷◌, ◌≡◌, ◌≤◌, ap}
 use Rattle.gf_form.proofs.lemmas.rows.Descents.{set_there}
 use Rattle.gf_form.proofs.lemmas.rows.GameDigits.{said_there, among_own}
 use Rattle.gf_form.proofs.lemmas.strategies.Lookups.{keys_distinct, own_set, set_is, there}
@@ -98,55 +98,47 @@ module _ (g : Game) (game : IsGame g) (choices : SetKey → ℕ) (player : ℕ) 
     pub relevant_is : is_relevant g choices key ≡ list_any test (met_nodes g choices player g.tree)
     relevant_is = comes_in g.tree game.children
 
--- ---- choices come to each set whose owner has one action at each of his
+  -- if its owner has one action at each of his sets, they come there wherever it is used
+  module _ (one : (own : SetKey) (set : InformationSet) → own.player ≡ player
+      → set_at g own ≡ Some set → (length set.actions ≡ 1) × (choices own ≡ 1)) where
+    abbrev is_used : List (Listed Node) → Bool
+    is_used es = list_any (same_set key) (filter_map (λ e. e.node.set) es)
 
-module _ (g : Game) (choices : SetKey → ℕ) (player : ℕ) (key : SetKey)
-    (one : (own : SetKey) (set : InformationSet) → own.player ≡ player → set_at g own ≡ Some set
-    → (length set.actions ≡ 1) × (choices own ≡ 1)) where
-  abbrev is_there : Stop ℕ → Bool
-  is_there v = option_map_or (same_set key) v.node.set false
+    his_move : (n : Node) (own : SetKey) (m k : ℕ) → n.set ≡ Some own
+        → option_map (λ set. length set.actions) (set_at g own) ≡ Some m → 1 ≤ k → k ≤ m
+        → is_own_choice choices key.player (record { node = n; taken = k }) ≡ true
+    his_move n own m k at known above within = grind (arith, eqb-true, his)
 
-  abbrev entered : Node → SetKey → ℕ → ℕ → ℕ → Option ℕ
-  entered = choosing visit_handing g (λ own. own.player == player) choices
+    node_where : (n : Node) (ts : Trees Node) (o : Option SetKey) → n.set ≡ o
+        → MatchOption o (count ts ≡ 0)
+        (λ own. option_map (λ set. length set.actions) (set_at g own) ≡ Some (count ts))
+        → ((own : SetKey) → n.set ≡ Some own
+        → option_map (λ set. length set.actions) (set_at g own) ≡ Some (count ts)
+        → is_here n ≡ false → come (plays_from n 1 ts) ≡ is_used (flatten_all ts))
+        → come (plays (branch n ts)) ≡ is_used (flatten (branch n ts))
+    node_where n none None at c below = grind arith
+    node_where n none (Some own) at c below = grind (arith, some_child)
+    node_where n (more t ts) None at c below = absurd (omega (arith, c))
+    node_where n (more t ts) (Some own) at c below = grind (arith, list_any-append, any_here)
 
-  chosen_child : (n : Node) (own : SetKey) (m k : ℕ)
-      → option_map (λ set. length set.actions) (set_at g own) ≡ Some m
-      → 1 ≤ k → k ≤ m → entered n own m 0 k ≡ Some 0
-  chosen_child n own m k known above within = grind arith
+    mutual
+      comes_where : (t : Tree Node) → AllByRecursion (HasChildren g) (flatten t)
+          → come (plays t) ≡ is_used (flatten t)
+      comes_where (branch n ts) children = node_where n ts n.set refl children.0 (λ own at c other.
+          come_where ts n own (count ts) 1 children.1 at c other (omega arith) (omega arith))
 
-  node_comes : (n : Node) (ts : Trees Node) (o : Option SetKey)
-      (beneath : SetKey → List (Stop ℕ)) → n.set ≡ o → MatchOption o (count ts ≡ 0)
-      (λ own. option_map (λ set. length set.actions) (set_at g own) ≡ Some (count ts))
-      → ((own : SetKey)
-      → option_map (λ set. length set.actions) (set_at g own) ≡ Some (count ts)
-      → list_any is_there (beneath own)
-      ≡ list_any (same_set key) (filter_map (λ e. e.node.set) (flatten_all ts)))
-      → list_any is_there (stop_at g n 0 ∷ option_map_or beneath o [])
-      ≡ list_any (same_set key) (used_sets (branch n ts))
-  node_comes n none None beneath at c below = grind arith
-  node_comes n (more t ts) None beneath at c below = absurd (omega (arith, c))
-  node_comes n ts (Some own) beneath at c below = grind (arith, below own c)
-
-  mutual
-    comes_where : (t : Tree Node) → AllByRecursion (HasChildren g) (flatten t)
-        → list_any is_there (met_nodes g choices player t) ≡ list_any (same_set key) (used_sets t)
-    comes_where (branch n ts) children = node_comes n ts n.set _ refl children.0 (λ own c.
-        come_where ts n own (count ts) 1 children.1 c (omega arith) (omega arith))
-
-    come_where : (ts : Trees Node) (n : Node) (own : SetKey) (m k : ℕ)
-        → AllByRecursion (HasChildren g) (flatten_all ts)
-        → option_map (λ set. length set.actions) (set_at g own) ≡ Some m
-        → 1 ≤ k → k + count ts ≤ 1 + m
-        → list_any is_there (descent_all g entered (entered n own m 0) k ts)
-        ≡ list_any (same_set key) (filter_map (λ e. e.node.set) (flatten_all ts))
-    come_where none n own m k children known above within = refl
-    come_where (more t ts) n own m k children known above within =
-        let both = all_parts (HasChildren g) (flatten t) (flatten_all ts) children in
-        let here = chosen_child n own m k known above (omega (arith, within)) in
-        let first = comes_where t both.0 in
-        let later =
-        come_where ts n own m (k + 1) both.1 known (omega arith) (omega (arith, within)) in
-        grind (arith, list_any-append, filter_map-append)
+      come_where : (ts : Trees Node) (n : Node) (own : SetKey) (m k : ℕ)
+          → AllByRecursion (HasChildren g) (flatten_all ts) → n.set ≡ Some own
+          → option_map (λ set. length set.actions) (set_at g own) ≡ Some m → is_here n ≡ false
+          → 1 ≤ k → k + count ts ≤ 1 + m → come (plays_from n k ts) ≡ is_used (flatten_all ts)
+      come_where none n own m k children at known other above within = refl
+      come_where (more t ts) n own m k children at known other above within =
+          let both = all_parts (HasChildren g) (flatten t) (flatten_all ts) children in
+          let move = his_move n own m k at known above (omega (arith, within)) in
+          let first = comes_where t both.0 in
+          let later = come_where ts n own m (k + 1) both.1 at known other (omega arith)
+          (omega (arith, within)) in
+          grind (arith, list_any-append, filter_map-append, any_below n k (plays t) other)
 
 -- ---- the only strategy
 
@@ -190,11 +182,8 @@ module _ (g : Game) (game : IsGame g) (player : ℕ)
   all_relevant : (key : SetKey) → Has (player_keys g player) key
       → is_relevant g (choice_at (player_keys g player) only) key ≡ true
   all_relevant key i =
-      relevant_is g game (choice_at (player_keys g player) only) player key
-      (own_set g player key i).3 (is_there g (choice_at (player_keys g player) only) player key
-      his_one) (λ n. refl)
-      ∙ comes_where g (choice_at (player_keys g player) only) player key his_one g.tree
-      game.children
+      comes_where g game (choice_at (player_keys g player) only) player key
+      (own_set g player key i).3 his_one g.tree game.children
       ∙ any_has (same_set key) (used_sets g.tree) key (used key i)
       ((same_set_equality key key).1 refl)
 

@@ -1,21 +1,21 @@
 -- The first of the strategies that reduce to the same one: it has the first action wherever no
 -- choice matters. And the profiles of first strategies are those of the reduced form, in its order.
 use Rattle.gf_form.proofs.Common
-use Common.{AreReducedPayoffsAt, unwrap_or-slice_get, ReducedOverflowsAt, false_from_ne_true, Entry}
-use Common.{reduced_strategies, Any-from_list_any, AreProfileNumbers, numbered_profiles, AreFoundTo}
-use Common.{same_set_equality, HasReducedValues, mul-le-mul_right, reduced_profiles, AllByRecursion}
-use Common.{all_zipped_more, length-profiles, IsFirstWithout, get_or_default, is_relevant_at, Ratio}
-use Common.{length-take-le, numbers_joined, reduced_labels, IsReducedForm, action_counts, AreFirsts}
-use Common.{full_profiles, if◌then◌else◌, profile_limit, relevant_sets, ArePayoffsAt, are_profiles}
-use Common.{numbers_from, on_ok_weaker, AllZip-long, AreDistinct, AreFirstsOf, IfOk-weaker, IsFirst}
-use Common.{get_or-take, is_relevant, length-take, list_any_at, player_keys, same_choice, ArePicked}
-use Common.{strategy_at, IsEquality, IsFormWith, all_weaker, first_uses, get_or-map, known_more, []}
-use Common.{length-map, map-append, more_known, mul-le-mul, players_of, reduced_at, reduced_by, Vec}
-use Common.{strategies, AreRowsAt, HasValues, IsProfile, choice_at, pointwise, take_more, AreBelow}
-use Common.{Contains, IsPaidAt, IsPicked, all_both, list_any, map_same, numbered, profiles, add-one}
-use Common.{take-map, full_at, product, reduced, AllZip, Global, IsGame, Option, SetKey, get_or, ap}
-use Common.{length, Table, arith, false, shown, subst, Bool, Game, List, None, Some, refl, take, ℕ}
-use Common.{true, zero, ◌++◌, map, set, suc, sym, zip, ◌*◌, ◌+◌, ◌-◌, ◌<◌, ◌↔◌, ◌∙◌, ◌∷◌, ◌≡◌, ◌≤◌}
+use Common.{AreReducedPayoffsAt, unwrap_or-slice_get, ReducedOverflowsAt, false_from_ne_true, Bool}
+use Common.{reduced_strategies, Any-from_list_any, AreProfileNumbers, numbered_profiles, AreFirsts}
+use Common.{same_set_equality, HasReducedValues, mul-le-mul_right, reduced_profiles, IsReducedForm}
+use Common.{length-profiles, AllByRecursion, IsFirstWithout, get_or_default, is_relevant_at, Entry}
+use Common.{length-take-le, reduced_labels, action_counts, full_profiles, if◌then◌else◌, ArePicked}
+use Common.{profile_limit, relevant_sets, ArePayoffsAt, are_profiles, on_ok_weaker, AllZip-long, ℕ}
+use Common.{AreDistinct, AreFirstsOf, IfOk-weaker, get_or-take, is_relevant, length-take, AreBelow}
+use Common.{list_any_at, player_keys, same_choice, strategy_at, AreFoundTo, IsEquality, IsFormWith}
+use Common.{all_weaker, first_uses, get_or-map, known_more, length-map, map-append, more_known, []}
+use Common.{mul-le-mul, players_of, reduced_at, reduced_by, strategies, AreRowsAt, HasValues, Game}
+use Common.{IsProfile, choice_at, pointwise, take_more, Contains, IsPaidAt, IsPicked, all_both, ap}
+use Common.{list_any, map_same, numbered, profiles, take-map, IsFirst, add-one, full_at, product}
+use Common.{reduced, AllZip, IsGame, Option, SetKey, get_or, length, Ratio, Table, arith, false}
+use Common.{shown, subst, List, None, Some, refl, take, true, zero, ◌++◌, map, set, suc, sym, zip}
+use Common.{◌*◌, ◌+◌, ◌-◌, ◌<◌, ◌↔◌, ◌∙◌, ◌∷◌, ◌≡◌, ◌≤◌}
 use Rattle.std.proofs.lemmas.List.Sums.{count_by-le-length, length-filter}
 use Rattle.gf_form.proofs.lemmas.strategies.Choices.{choice_length, at_its_place, are_choices}
 use Rattle.gf_form.proofs.lemmas.strategies.Choices.{IsChoice, place_at, place}
@@ -264,20 +264,6 @@ fewer_of g (player ∷ players) =
 -- no more profiles than those of all strategies
 pub fewer_profiles : (g : Game) → length (reduced_profiles g) ≤ length (full_profiles g)
 fewer_profiles g = grind (arith, fewer_of, length-profiles, strategy_counts)
-
--- what the first players have
-abbrev pub HavePlayers : Game → ℕ → List (Vec ℕ Global) → List (List (List ℕ)) → Type 0
-HavePlayers g place firsts labels =
-    AllZip (AreFirstsOf g) (map (λ own. own.items) firsts) (numbers_from 1 place)
-    × (labels ≡ map (reduced_labels g) (numbers_from 1 place))
-
-pub one_player_more : (g : Game) (place : ℕ) (firsts next : List (Vec ℕ Global))
-    (own : Vec ℕ Global) (labels more : List (List (List ℕ))) (names : List (List ℕ))
-    → HavePlayers g place firsts labels → AreFirstsOf g own.items (place + 1)
-    → names ≡ reduced_labels g (place + 1) → next ≡ firsts ++ own ∷ []
-    → more ≡ labels ++ names ∷ [] → HavePlayers g (place + 1) next more
-one_player_more g place firsts next own labels more names h own_are names_are next_is more_is =
-    let numbers = numbers_joined 1 place 1 in grind (arith, numbers, all_zipped_more, map-append)
 
 -- ---- what profiles reduce to
 

@@ -1,15 +1,15 @@
 -- Rows that tell which sets are relevant: what a level tells of strategies after a choice, or at a
 -- digit at which nothing is demanded, and which strategies have a row.
 use Rattle.gf_form.proofs.Common
-use Common.{All-from_recursion, recursion_from_All, IsNonDecreasingBy, get_or-set_other, all_weaker}
+use Common.{All-from_recursion, recursion_from_All, IsNonDecreasingBy, get_or-set_other, all_parts}
 use Common.{slice_get-get_or, take-append-drop, All-from_get_or, All-permutation, get_or-set_same}
-use Common.{AllByRecursion, reduced_labels, IsPermutation, action_counts, reduced_label, choices_at}
-use Common.{relevant_sets, ChooseInTurn, AreFirstsOf, is_relevant, player_keys, ext_get_or, AreTold}
-use Common.{length-map, length-set, map-append, strategies, all_parts, choice_at, map_twice, Global}
-use Common.{slice_get, take_more, AreGiven, IsChosen, OwnDigit, all_both, cases_eq, numbered, Found}
-use Common.{IsLevel, product, reduced, HasRow, IsGame, IsTold, get_or, is_met, length, Level, Marks}
-use Common.{Visit, arith, false, shown, subst, Bool, Game, List, Some, drop, refl, take, ◌++◌, Vec}
-use Common.{map, set, sym, ◌%◌, ◌+◌, ◌-◌, ◌/◌, ◌<◌, ◌∙◌, ◌∷◌, ◌≡◌, [], ap, ℕ}
+use Common.{AllByRecursion, reduced_labels, IsPermutation, action_counts, reduced_label, choice_at}
+use Common.{relevant_sets, ChooseInTurn, AreFirstsOf, is_relevant, player_keys, all_weaker, Global}
+use Common.{choices_at, ext_get_or, length-map, length-set, strategies, map_twice, slice_get, Bool}
+use Common.{take_more, AreGiven, IsChosen, OwnDigit, all_both, cases_eq, numbered, AreTold, HasRow}
+use Common.{IsLevel, product, reduced, IsGame, IsTold, get_or, is_met, length, Found, Level, Marks}
+use Common.{Visit, arith, false, shown, subst, Game, List, Some, drop, refl, take, ◌++◌, Vec, map}
+use Common.{set, sym, ◌%◌, ◌+◌, ◌-◌, ◌/◌, ◌<◌, ◌∙◌, ◌∷◌, ◌≡◌, [], ap, ℕ}
 use Rattle.gf_form.specs.inner.reduced.Rows.{IsPlain}
 use Rattle.std.proofs.lemmas.List.Sorted.{IsPermutation-sym}
 use Rattle.gf_form.proofs.lemmas.reduced.LevelsChosen.{no_visit}
@@ -126,34 +126,38 @@ module _ {g : Game} {player : ℕ} {digits : List OwnDigit} {numbers : List ℕ}
       ∙ sym (told.tells place inside))
 
 module _ {g : Game} {player : ℕ} {numbers : List ℕ} where
+  -- nothing but the rows counts
+  pub nothing_given : (before after : Relevance) → after.rows ≡ before.rows
+      → after.row_of ≡ before.row_of → AreGiven g player numbers before after []
+  nothing_given before after rows_are row_of_are = grind arith
+
+  pub both_given : (before r after : Relevance) (done own : List Found)
+      → AreGiven g player numbers before r done → AreGiven g player numbers r after own
+      → AreGiven g player numbers before after (done ++ own)
+  both_given before r after done own first second = grind (arith, all_both, all_weaker)
+
   -- a strategy has one in addition
-  pub one_given : (before r after : Relevance) (done : List Found) (found : Found) (row : ℕ)
-      → AreGiven g player numbers before r done → after.rows ≡ r.rows
+  one_given : (r after : Relevance) (found : Found) (row : ℕ) → after.rows ≡ r.rows
       → after.row_of.items ≡ set r.row_of.items found.place row
       → found.place < length r.row_of.items → row < length r.rows.items
       → get_or (map (λ row. row.items) r.rows.items) row []
       ≡ relevant_sets g player (numbered g player (get_or numbers found.place 0))
-      → AreGiven g player numbers before after (done ++ found ∷ [])
-  one_given before r after done found row given same next inside there is =
+      → AreGiven g player numbers r after (found ∷ [])
+  one_given r after found row same next inside there is =
       let rows = map (λ (row : Vec Bool Global). row.items) r.rows.items in
       let Right = λ (place at : ℕ). (at < length r.rows.items)
       × (get_or rows at [] ≡ relevant_sets g player (numbered g player (get_or numbers place 0))) in
       let has : (place : ℕ) → Right place (get_or after.row_of.items place 0)
       → HasRow g player numbers after place =
-      λ place right. record { within = rw same right.0; is = rw same right.1 } in
-      let more = λ (place : ℕ) (old : HasRow g player numbers r place).
-      has place (rw next (set_right Right r.row_of.items found.place row inside (there, is) place
-      (old.within, old.is))) in record {
-        room = grind (arith, given.room, length-set);
-        kept = λ place old. more place (given.kept place old);
-        given = all_both (λ found. HasRow g player numbers after found.place) done (found ∷ [])
-            (all_weaker (λ found. HasRow g player numbers r found.place)
-            (λ found. HasRow g player numbers after found.place)
-            (λ found old. more found.place old) done given.given) (
-              has found.place (rw next (rw (get_or-set_same r.row_of.items found.place row 0 inside)
-                  (there, is))),
-              tt,
-            );
+      λ place right. record { within = rw same right.0; is = rw same right.1 } in record {
+        room = grind (arith, length-set);
+        kept = λ place old. has place (rw next (set_right Right r.row_of.items found.place row inside
+            (there, is) place (old.within, old.is)));
+        given = (
+          has found.place (rw next (rw (get_or-set_same r.row_of.items found.place row 0 inside)
+              (there, is))),
+          tt,
+        );
       }
 
   pub next_given : {digits : List OwnDigit} {level : Level} {all : List Found}
@@ -170,20 +174,10 @@ module _ {g : Game} {player : ℕ} {numbers : List ℕ} where
       let found = get_or all i no_found in
       let one = all_at (IsTold g player digits numbers level) all i no_found told.each less in
       rw (take_more all i no_found less)
-      (one_given before r after (take i all) found row given same next
-      (omega (arith, one.there, room, given.room)) there
+      (both_given before r after (take i all) (found ∷ []) given (one_given r after found row same
+      next (omega (arith, one.there, room, given.room)) there
       (row_is plain told.levelled marks found one
-      ∙ ap (λ (n : ℕ). relevant_sets g player (numbered g player n)) (sym one.number)))
-
-  -- nothing but the rows counts
-  pub nothing_given : (before after : Relevance) → after.rows ≡ before.rows
-      → after.row_of ≡ before.row_of → AreGiven g player numbers before after []
-  nothing_given before after rows_are row_of_are = grind arith
-
-  pub both_given : (before r after : Relevance) (done own : List Found)
-      → AreGiven g player numbers before r done → AreGiven g player numbers r after own
-      → AreGiven g player numbers before after (done ++ own)
-  both_given before r after done own first second = grind (arith, all_both, all_weaker)
+      ∙ ap (λ (n : ℕ). relevant_sets g player (numbered g player n)) (sym one.number))))
 
   pub given_permuted : (before after : Relevance) (strategies ordered : List Found)
       → IsPermutation strategies ordered → AreGiven g player numbers before after ordered
@@ -228,21 +222,10 @@ module _ (g : Game) (game : IsGame g) (player : ℕ) (numbers : List ℕ)
     pub row_fits : length row ≡ length s
     row_fits = ap length has.is ∙ flags_fit g game player (get_or numbers i 0) inside
 
-    label_written : reduced_label (shown row s) ≡ reduced_label (reduced g player s)
+    pub label_written : reduced_label (shown row s) ≡ reduced_label (reduced g player s)
     label_written =
         ap (λ (flags : List Bool). reduced_label (shown flags s)) has.is
         ∙ ap reduced_label (sym (reduced_shown_at g game player (get_or numbers i 0) inside))
-
-    pub label_more : (flags : List Bool) (strategy label : List ℕ) (labels next : List (List ℕ))
-        → flags ≡ row → strategy ≡ s → label ≡ reduced_label (shown flags strategy)
-        → labels ≡ map (λ n. reduced_label (reduced g player (numbered g player n)))
-        (take i numbers)
-        → next ≡ labels ++ label ∷ []
-        → next ≡ map (λ n. reduced_label (reduced g player (numbered g player n)))
-        (take (i + 1) numbers)
-    label_more flags strategy label labels next flags_are is label_is labels_are next_is =
-        let text = label_is ∙ (λ k. reduced_label (shown (flags_are k) (is k))) ∙ label_written in
-        grind (arith, text, take_more numbers i 0 less, map-append)
 
   pub labels_written : map (λ n. reduced_label (reduced g player (numbered g player n))) numbers
       ≡ reduced_labels g player

@@ -1,15 +1,17 @@
 -- The digits of one player's sets, and his visits to these; a search for first strategies, and that
 -- for their labels, before the first choice; and what the player has at the end.
 use Rattle.gf_form.proofs.Common
-use Common.{recursion_from_All, mul-le-mul_right, slice_get-get_or, All-from_get_or, AllByRecursion}
-use Common.{is_relevant_at, FindRelevance, action_counts, ChooseInTurn, append_assoc, mod-eq_of_lt}
-use Common.{AreFirstsOf, ArePositive, HoldTheSame, digits_from, digits_with, get_or-drop, choice_at}
-use Common.{is_relevant, player_keys, same_choice, steps_after, AreFoundTo, IsSearched, actions_of}
-use Common.{choices_at, first_uses, get_or-map, strategies, drop-drop, is_met_on, nat_tests, AreOwn}
-use Common.{pointwise, OwnDigit, digit_at, numbered, steps_of, steps_to, AreTold, IsLevel, is_left}
-use Common.{product, reduced, IsFine, IsGame, IsTold, SetKey, get_or, is_met, length, nat_lt, Found}
-use Common.{picked, Level, Visit, arith, false, subst, width, Game, List, drop, refl, take, ◌&&◌, ℕ}
-use Common.{◌++◌, ◌||◌, map, suc, sym, ◌*◌, ◌+◌, ◌<◌, ◌^◌, ◌∙◌, ◌∷◌, ◌≡◌, ◌≤◌, [], ap}
+use Common.{recursion_from_All, mul-le-mul_right, slice_get-get_or, All-from_get_or, FindRelevance}
+use Common.{AllByRecursion, is_relevant_at, action_counts, ChooseInTurn, append_assoc, AreFirstsOf}
+use Common.{mod-eq_of_lt, ArePositive, HoldTheSame, digits_from, digits_with, get_or-drop, AreTold}
+use Common.{is_relevant, player_keys, steps_after, AreFoundTo, IsSearched, actions_of, choices_at}
+use Common.{get_or-map, strategies, choice_at, drop-drop, is_met_on, nat_tests, OwnDigit, digit_at}
+use Common.{numbered, steps_of, steps_to, IsLevel, is_left, product, AreOwn, IsFine, IsTold, Found}
+use Common.{SetKey, get_or, is_met, length, nat_lt, picked, Level, Visit, arith, false, subst, map}
+use Common.{width, Game, List, drop, refl, take, ◌&&◌, ◌++◌, ◌||◌, suc, sym, ◌*◌, ◌+◌, ◌<◌, ◌^◌, ℕ}
+use Common.{◌∙◌, ◌∷◌, ◌≡◌, ◌≤◌, [], ap}
+use Rattle.gf_form.specs.inner.reduced.Search.{IsPlayer}
+use Rattle.gf_form.specs.declared.reduced.first.Player.{Player}
 use Rattle.gf_form.proofs.lemmas.rows.Digits.{width_positive, steps_long, next_is}
 use Rattle.gf_form.proofs.lemmas.reduced.LevelsChosen.{no_visit}
 use Rattle.gf_form.proofs.lemmas.reduced.Searches.{place_inside}
@@ -100,31 +102,33 @@ few_digits p (n ∷ counts) h = grind (arith, few_digits (p + 1) counts h.1)
 
 -- ---- before the first choice
 
-module _ (g : Game) (game : IsGame g) (player : ℕ) (digits : List OwnDigit)
-    (are : digits ≡ digits_from 0 (action_counts g player)) (whole : ℕ)
-    (whole_is : whole ≡ product (action_counts g player)) (few : whole < 2 ^ 32)
-    (visits : List Visit) (find : FindRelevance g player visits) (level : Level)
-    (unknown : (place : ℕ) → get_or level.known.items place false ≡ false) where
+module _ {p : Player} (is : IsPlayer p) (few : p.whole < 2 ^ 32) where
+  abbrev g : Game
+  g = p.game.now
+
+  abbrev digits : List OwnDigit
+  digits = p.digits.items
+
   abbrev counts : List ℕ
-  counts = action_counts g player
+  counts = action_counts g p.number
 
   abbrev keys : List SetKey
-  keys = player_keys g player
+  keys = player_keys g p.number
 
   no_key : SetKey
   no_key = record { player = 0; number = 0 }
 
   actions_are : actions_of digits ≡ picked counts counts
-  actions_are = rw are (actions_from 0 counts)
+  actions_are = ap actions_of is.digits ∙ actions_from 0 counts
 
   choices_are : (n : ℕ) → n < product counts
-      → choices_at g player digits n ≡ picked counts (numbered g player n)
+      → choices_at g p.number digits n ≡ picked counts (numbered g p.number n)
   choices_are n less =
-      ap (map (λ (d : OwnDigit). get_or (numbered g player n) d.place 0)) are
-      ∙ places_from (numbered g player n) (numbered g player n) 0 counts refl
-      (choice_length counts (numbered g player n) (choice_at_number counts n less))
+      ap (map (λ (d : OwnDigit). get_or (numbered g p.number n) d.place 0)) is.digits
+      ∙ places_from (numbered g p.number n) (numbered g p.number n) 0 counts refl
+      (choice_length counts (numbered g p.number n) (choice_at_number counts n less))
 
-  pub all_in_turn : ChooseInTurn g player digits whole
+  pub all_in_turn : ChooseInTurn g p.number digits p.whole
   all_in_turn =
       grind (
         arith,
@@ -139,91 +143,80 @@ module _ (g : Game) (game : IsGame g) (player : ℕ) (digits : List OwnDigit)
         mod-eq_of_lt,
       )
 
-  -- A set is relevant if some visit to it comes about. The level has these visits, to other places.
-  told_by : (own : List Visit) → HoldTheSame own level.visits.items → (n place q : ℕ)
-      → n < 0 + whole → place < length keys
-      → is_met q (steps_to digits) (choices_at g player digits n) own
-      ≡ is_met place (steps_to digits) (choices_at g player digits n) visits
-      → is_relevant_at g player n place
-      ≡ is_left q (steps_to digits) (choices_at g player digits n) level
-  told_by own held n place q to among same =
-      let within : n < product counts = omega (arith, to, whole_is) in
-      let steps_are : steps_to digits ≡ steps_of (picked counts counts) =
-      rw are (steps_from 0 counts) in
-      get_or-map (is_relevant g (choice_at keys (numbered g player n))) keys place no_key false
-      among
-      ∙ find.relevant (numbered g player n) place (get_or keys place no_key)
-      (choice_at_number counts n within) (slice_get-get_or keys place no_key among)
-      ∙ (λ i. is_met place (sym steps_are i) (sym (choices_are n within) i) visits)
-      ∙ sym same
-      ∙ (λ i. sym (unknown q) i
-      || sym (held (is_met_on q (steps_to digits) (choices_at g player digits n))) i)
+  module _ {visits : List Visit} (find : FindRelevance g p.number visits) (level : Level)
+      (unknown : (place : ℕ) → get_or level.known.items place false ≡ false) where
+    -- a set is relevant if some visit to it comes about; the level has these, to other places
+    told_by : (own : List Visit) → HoldTheSame own level.visits.items → (n place q : ℕ)
+        → n < 0 + p.whole → place < length keys
+        → is_met q (steps_to digits) (choices_at g p.number digits n) own
+        ≡ is_met place (steps_to digits) (choices_at g p.number digits n) visits
+        → is_relevant_at g p.number n place
+        ≡ is_left q (steps_to digits) (choices_at g p.number digits n) level
+    told_by own held n place q to among same =
+        let within : n < product counts = omega (arith, to, is.whole) in
+        let steps_are = ap steps_to is.digits ∙ steps_from 0 counts in
+        get_or-map (is_relevant g (choice_at keys (numbered g p.number n))) keys place no_key false
+        among
+        ∙ find.relevant (numbered g p.number n) place (get_or keys place no_key)
+        (choice_at_number counts n within) (slice_get-get_or keys place no_key among)
+        ∙ (λ i. is_met place (sym steps_are i) (sym (choices_are n within) i) visits)
+        ∙ sym same
+        ∙ (λ i. sym (unknown q) i
+        || sym (held (is_met_on q (steps_to digits) (choices_at g p.number digits n))) i)
 
-  pub searched_all : (own : List Visit) → AreOwn digits visits own
-      → HoldTheSame own level.visits.items → IsLevel (length digits) level
-      → IsSearched g player digits digits level 0 0 whole
-  searched_all own own_are held levelled = record {
-    all_are = are;
-    rest = refl;
-    deep = omega arith;
-    turn = all_in_turn;
-    row = 0;
-    start = omega arith;
-    end = omega (arith, whole_is, length-all_choices counts);
-    few = omega (arith, whole_is, few, length-all_choices counts);
-    levelled = levelled;
-    tells = λ n j from to among.
-        let inside = place_inside g game player digits are j among in
-        let relevant = told_by own held n (digit_at digits j).place j to
-        (omega (arith, inside, sets_counted g player))
-        (own_are j (steps_to digits) (choices_at g player digits n) among) in
-        grind (arith, nat_tests, relevant);
-  }
+    pub searched_all : (own : List Visit) → AreOwn digits visits own
+        → HoldTheSame own level.visits.items → IsLevel (length digits) level
+        → IsSearched p digits level 0 0 p.whole
+    searched_all own own_are held levelled = record {
+      rest = refl;
+      deep = omega arith;
+      turn = all_in_turn;
+      row = 0;
+      start = omega arith;
+      end = omega (arith, is.whole, length-all_choices counts);
+      few = omega (arith, is.whole, few, length-all_choices counts);
+      levelled = levelled;
+      tells = λ n j from to among.
+          let inside = place_inside is j among in
+          let relevant = told_by own held n (digit_at digits j).place j to
+          (omega (arith, inside, sets_counted g p.number))
+          (own_are j (steps_to digits) (choices_at g p.number digits n) among) in
+          grind (arith, nat_tests, relevant);
+    }
 
-  pub told_all : HoldTheSame visits level.visits.items → IsLevel (length counts) level
-      → (numbers : List ℕ) → AreFirstsOf g numbers player → (all : List Found)
-      → length all ≡ length numbers → ((place : ℕ) (d : Found) → place < length numbers
-      → get_or all place d ≡ record { place = place; number = get_or numbers place 0 })
-      → AreTold g player digits numbers level all
-  told_all held levelled numbers firsts all long each = record {
-    levelled = rw (sym (sets_counted g player)) levelled;
-    each = recursion_from_All (IsTold g player digits numbers level) all
-        (All-from_get_or (IsTold g player digits numbers level) all no_found (λ i inside.
-        let less : i < length numbers = omega (arith, inside, long) in
-        let n = get_or numbers i 0 in
-        let within = all_at (λ n. n < length (strategies g player)) numbers i 0 firsts.1 less in
-        rw (each i no_found less) (record {
-          there = less;
-          number = refl;
-          within = within;
-          tells = λ place among. told_by visits held n place place
-              (omega (arith, within, whole_is, length-all_choices counts)) among refl;
-        })));
-  }
+    pub told_all : HoldTheSame visits level.visits.items → IsLevel (length counts) level
+        → (numbers : List ℕ) → AreFirstsOf g numbers p.number → (all : List Found)
+        → length all ≡ length numbers → ((place : ℕ) (d : Found) → place < length numbers
+        → get_or all place d ≡ record { place = place; number = get_or numbers place 0 })
+        → AreTold g p.number digits numbers level all
+    told_all held levelled numbers firsts all long each = record {
+      levelled = rw (sym (sets_counted g p.number)) levelled;
+      each = recursion_from_All (IsTold g p.number digits numbers level) all
+          (All-from_get_or (IsTold g p.number digits numbers level) all no_found (λ i inside.
+          let less : i < length numbers = omega (arith, inside, long) in
+          let n = get_or numbers i 0 in
+          let within = all_at (λ n. n < length (strategies g p.number)) numbers i 0 firsts.1 less in
+          rw (each i no_found less) (record {
+            there = less;
+            number = refl;
+            within = within;
+            tells = λ place among. told_by visits held n place place
+                (omega (arith, within, is.whole, length-all_choices counts)) among refl;
+          })));
+    }
 
--- ---- nothing is found yet
+-- ---- what is found, at first and at the end
 
 pub none_found_yet : (g : Game) (player : ℕ) (numbers : List ℕ) → numbers ≡ []
     → AreFoundTo g player numbers 0
 none_found_yet g player numbers none = grind arith
 
--- ---- at the end
-
-module _ (g : Game) (game : IsGame g) (player : ℕ) (numbers : List ℕ) (whole : ℕ)
-    (whole_is : whole ≡ product (action_counts g player))
-    (found : AreFoundTo g player numbers whole) where
-  abbrev each_of : List (List ℕ)
-  each_of = strategies g player
-
-  past : whole ≡ length each_of
-  past = omega (arith, whole_is, length-all_choices (action_counts g player))
-
-  pub firsts_are : AreFirstsOf g numbers player
-  firsts_are = (
-    found.are
-        ∙ ap (λ (all : List (List ℕ)). first_uses (pointwise same_choice)
-        (map (reduced g player) all)) (take_past whole each_of (omega (arith, past))),
-    subst (λ (n : ℕ). AllByRecursion (λ number. number < n) numbers) past found.within,
-  )
+pub firsts_are : {p : Player} → IsPlayer p → (numbers : List ℕ)
+    → AreFoundTo p.game.now p.number numbers p.whole → AreFirstsOf p.game.now numbers p.number
+firsts_are {p} is numbers found =
+    let all = strategies p.game.now p.number in
+    let whole = subst (AreFoundTo p.game.now p.number numbers)
+    (is.whole ∙ sym (length-all_choices (action_counts p.game.now p.number))) found in
+    (rw (take_past (length all) all (omega arith)) at whole.are, whole.within)
 
 pub ruleset start_steps = (actions_positive, width_fits, few_digits, none_found_yet)

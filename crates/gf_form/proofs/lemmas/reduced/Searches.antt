@@ -1,15 +1,17 @@
 -- A search for first strategies, choice by choice: what is below the choices so far, and what it
 -- finds where it goes no further. And the labels of those that were found, come to in the same way.
 use Rattle.gf_form.proofs.Common
-use Common.{mul-div_cancel_left, div-lt_iff_lt-mul, mul-le-mul_right, nil_from_length, ChooseInTurn}
-use Common.{AllByRecursion, is_relevant_at, length-take-le, mod-mod_of_dvd, AreFirstBelow, OwnDigit}
-use Common.{action_counts, if◌then◌else◌, dvd-mul_left, ArePositive, all_choices, digits_from, Bool}
+use Common.{mul-div_cancel_left, div-lt_iff_lt-mul, mul-le-mul_right, nil_from_length, ArePositive}
+use Common.{AllByRecursion, is_relevant_at, length-take-le, mod-mod_of_dvd, AreFirstBelow, IsFirst}
+use Common.{action_counts, if◌then◌else◌, ChooseInTurn, dvd-mul_left, all_choices, digits_from, []}
 use Common.{div-mul-add, get_or-take, length-drop, mod-mul-add, AreFoundTo, IsChosenAt, IsSearched}
-use Common.{actions_of, can_be_met, cases_Bool, choices_at, is_settled, strategies, mul_assoc, Game}
-use Common.{nat_tests, and-true, cases_lt, digit_at, list_any, numbered, steps_to, IsFirst, IsLevel}
-use Common.{is_left, product, IsFine, IsGame, get_or, is_met, length, mod-lt, nat_lt, Level, Marks}
-use Common.{Visit, arith, false, subst, List, drop, refl, take, true, zero, ◌&&◌, ◌==◌, ◌||◌, inl}
-use Common.{inr, suc, sym, ◌%◌, ◌*◌, ◌+◌, ◌-◌, ◌/◌, ◌<◌, ◌^◌, ◌∙◌, ◌∣◌, ◌∷◌, ◌≡◌, ◌≤◌, [], ap, ℕ}
+use Common.{actions_of, can_be_met, cases_Bool, choices_at, is_settled, strategies, mul_assoc, inl}
+use Common.{nat_tests, OwnDigit, and-true, cases_lt, digit_at, list_any, numbered, steps_to, Level}
+use Common.{IsLevel, is_left, product, IsFine, get_or, is_met, length, mod-lt, nat_lt, Marks, Bool}
+use Common.{Visit, arith, false, subst, Game, List, drop, refl, take, true, zero, ◌&&◌, ◌==◌, ◌||◌}
+use Common.{inr, suc, sym, ◌%◌, ◌*◌, ◌+◌, ◌-◌, ◌/◌, ◌<◌, ◌^◌, ◌∙◌, ◌∣◌, ◌∷◌, ◌≡◌, ◌≤◌, ap, ℕ}
+use Rattle.gf_form.specs.inner.reduced.Search.{IsPlayer}
+use Rattle.gf_form.specs.declared.reduced.first.Player.{Player}
 use Rattle.gf_form.proofs.lemmas.strategies.StrategiesByNumber.{choices_next}
 use Rattle.gf_form.proofs.lemmas.rows.GameDigits.{choice_at_number}
 use Rattle.gf_form.proofs.lemmas.strategies.CountedActions.{product_positive, action_within}
@@ -95,9 +97,8 @@ settled_more : (r : Bool) (a j depth before : ℕ) → (j ≡ depth → a ≡ be
     ≡ ((r || (nat_lt j depth && a == 1)) || (before + 1 == 1 && j == depth))
 settled_more r a j depth before same = grind (arith, nat_tests)
 
-module _ {g : Game} {player : ℕ} {all : List OwnDigit} {d : OwnDigit} {faster : List OwnDigit}
-    {level : Level} {depth number count : ℕ}
-    (below : IsSearched g player all (d ∷ faster) level depth number count) where
+module _ {p : Player} {d : OwnDigit} {faster : List OwnDigit} {level : Level}
+    {depth number count : ℕ} (below : IsSearched p (d ∷ faster) level depth number count) where
   abbrev row : ℕ
   row = count / d.actions
 
@@ -108,7 +109,7 @@ module _ {g : Game} {player : ℕ} {all : List OwnDigit} {d : OwnDigit} {faster 
 
   -- an action other than the first is chosen after the first row
   moved : (n : ℕ) → number + row ≤ n → n < number + count
-      → ¬ (get_or (numbered g player n) d.place 0 ≡ 1)
+      → ¬ (get_or (numbered p.game.now p.number n) d.place 0 ≡ 1)
   moved n from to first =
       let here = chosen_here below.turn n (omega (arith, to, below.end)) in
       let low : n % count / row < 1 = omega (arith, here, first) in
@@ -119,7 +120,8 @@ module _ {g : Game} {player : ℕ} {all : List OwnDigit} {d : OwnDigit} {faster 
   row_end before less = grind (arith, rows_are below.turn, mul-le-mul_right)
 
   chosen_there : (before n : ℕ) → before < d.actions → number + before * row ≤ n
-      → n < number + before * row + row → get_or (numbered g player n) d.place 0 ≡ before + 1
+      → n < number + before * row + row
+      → get_or (numbered p.game.now p.number n) d.place 0 ≡ before + 1
   chosen_there before n less from to =
       let end = row_end before less in
       let here = chosen_here below.turn n (omega (arith, to, end, below.end)) in
@@ -131,13 +133,12 @@ module _ {g : Game} {player : ℕ} {all : List OwnDigit} {d : OwnDigit} {faster 
   pub next_searched : (before : ℕ) → before < d.actions → {left : Level}
       → IsLevel (length level.known.items) left → {action : ℕ} → action ≡ before + 1
       → IsChosenAt depth d.step action level left
-      → IsSearched g player all faster left (depth + 1) (number + before * row) row
+      → IsSearched p faster left (depth + 1) (number + before * row) row
   next_searched before less levelled is chosen =
-      let here = digit_here all depth d faster below.rest in
+      let here = digit_here p.digits.items depth d faster below.rest in
       let rows = ap (λ n. below.row * n) (sym (rows_are below.turn))
       ∙ sym (mul_assoc below.row d.actions row) in
       let end = row_end before less in record {
-        all_are = below.all_are;
         rest = here.1;
         deep = omega (arith, here.0);
         turn = turn_next below.turn;
@@ -148,11 +149,12 @@ module _ {g : Game} {player : ℕ} {all : List OwnDigit} {d : OwnDigit} {faster 
         levelled = rw below.levelled.counted at levelled;
         tells = λ n j from to among.
             let there = chosen_there before n less from to in
-            let left_is = chosen j (steps_to faster) (choices_at g player faster n)
+            let left_is = chosen j (steps_to faster) (choices_at p.game.now p.number faster n)
             (omega (arith, among, below.levelled.counted)) (steps_positive faster below.turn.fine.1) in
             let old = below.tells n j (omega (arith, from)) (omega (arith, to, end)) among in
-            let more = settled_more (is_relevant_at g player n (digit_at all j).place)
-            (get_or (numbered g player n) (digit_at all j).place 0) j depth before in
+            let q = (digit_at p.digits.items j).place in
+            let more = settled_more (is_relevant_at p.game.now p.number n q)
+            (get_or (numbered p.game.now p.number n) q 0) j depth before in
             grind (arith, there, left_is, old, more, is, here.2);
       }
 
@@ -204,125 +206,130 @@ digit_inside p [] j less = absurd (omega (arith, less))
 
 -- ---- first strategies
 
-module _ (g : Game) (game : IsGame g) (player : ℕ) where
+module _ {p : Player} (is : IsPlayer p) where
+  abbrev g : Game
+  g = p.game.now
+
+  abbrev digits : List OwnDigit
+  digits = p.digits.items
+
   abbrev counts : List ℕ
-  counts = action_counts g player
+  counts = action_counts g p.number
 
   abbrev all : List (List ℕ)
-  all = strategies g player
+  all = strategies g p.number
 
   -- the only action at a set
   pub alone : (n q : ℕ) → n < length all → q < length counts → get_or counts q 0 ≤ 1
-      → get_or (numbered g player n) q 0 ≡ 1
+      → get_or (numbered g p.number n) q 0 ≡ 1
   alone n q within among one =
       grind (arith, action_within, choice_at_number, length-all_choices, long)
 
-  module _ (digits : List OwnDigit) (are : digits ≡ digits_from 0 counts) where
-    pub place_inside : (j : ℕ) → j < length digits → (digit_at digits j).place < length counts
-    place_inside j less =
-        let inside = digit_inside 0 counts j (rw are at less) in rw are (omega (arith, inside))
+  pub place_inside : (j : ℕ) → j < length digits → (digit_at digits j).place < length counts
+  place_inside j less = grind (arith, digit_inside 0 counts j, is.digits)
 
-    settled_first : (depth n : ℕ) → n < length all
-        → ((j : ℕ) → j < length digits → is_settled g player digits depth n j ≡ true)
-        → IsFirst g player n
-    settled_first depth n within settled q less unset =
-        elim (cases_lt 1 (get_or counts q 0)) [
-          | inl several ↦
-              let d = rw (sym are) at (digit_there 0 counts q less several) in
-              grind (arith, settled d.0 d.1, d.2, unset)
-          | inr one ↦ alone n q within less one
-        ]
+  settled_first : (depth n : ℕ) → n < length all
+      → ((j : ℕ) → j < length digits → is_settled g p.number digits depth n j ≡ true)
+      → IsFirst g p.number n
+  settled_first depth n within settled q less unset =
+      elim (cases_lt 1 (get_or counts q 0)) [
+        | inl several ↦
+            let d = rw (sym is.digits) at (digit_there 0 counts q less several) in
+            grind (arith, settled d.0 d.1, d.2, unset)
+        | inr one ↦ alone n q within less one
+      ]
 
-    unsettled : (depth n j : ℕ) → n < length all → j < length digits
-        → is_settled g player digits depth n j ≡ false → j < depth → IsRepeated g game player n
-    unsettled depth n j within less flag early =
-        repeated g game player n (digit_at digits j).place within (place_inside j less)
-        (grind (arith, flag)) (grind (arith, nat_tests, flag))
+  unsettled : (depth n j : ℕ) → n < length all → j < length digits
+      → is_settled g p.number digits depth n j ≡ false → j < depth
+      → IsRepeated g is.is_game p.number n
+  unsettled depth n j within less flag early =
+      repeated g is.is_game p.number n (digit_at digits j).place within (place_inside j less)
+      (grind (arith, flag)) (grind (arith, nat_tests, flag))
 
-    module _ {left : List OwnDigit} {level : Level} {depth number count : ℕ}
-        (below : IsSearched g player digits left level depth number count) where
-      within_all : (n : ℕ) → n < number + count → n < length all
-      within_all n to = omega (arith, to, below.end)
+  module _ {left : List OwnDigit} {level : Level} {depth number count : ℕ}
+      (below : IsSearched p left level depth number count) where
+    within_all : (n : ℕ) → n < number + count → n < length all
+    within_all n to = omega (arith, to, below.end)
 
-      -- all sets of digits are known to be met
-      pub known_firsts : ((k : ℕ) → k < length level.known.items
-          → get_or level.known.items k false ≡ true) → AreFirstBelow g player number count
-      known_firsts known n from to =
-          settled_first depth n (within_all n to)
-          (λ j early. below.tells n j from to early
-          ∙ grind (arith, known j, below.levelled.counted))
+    -- all sets of digits are known to be met
+    pub known_firsts : ((k : ℕ) → k < length level.known.items
+        → get_or level.known.items k false ≡ true) → AreFirstBelow g p.number number count
+    known_firsts known n from to =
+        settled_first depth n (within_all n to)
+        (λ j early. below.tells n j from to early
+        ∙ grind (arith, known j, below.levelled.counted))
 
-      module _ {met : List Bool} (marks : Marks level met) where
-        unmet_flag : (n j : ℕ) → number ≤ n → n < number + count → j < length digits
-            → get_or met j false ≡ false → is_settled g player digits depth n j ≡ false
-        unmet_flag n j from to among unmet =
-            below.tells n j from to among
-            ∙ unmet_left j _ _ level
-            (sym (marks.marked j (omega (arith, among, below.levelled.counted))) ∙ unmet)
+    module _ {met : List Bool} (marks : Marks level met) where
+      unmet_flag : (n j : ℕ) → number ≤ n → n < number + count → j < length digits
+          → get_or met j false ≡ false → is_settled g p.number digits depth n j ≡ false
+      unmet_flag n j from to among unmet =
+          below.tells n j from to among
+          ∙ unmet_left j _ _ level
+          (sym (marks.marked j (omega (arith, among, below.levelled.counted))) ∙ unmet)
 
-        taken : length (take depth met) ≡ depth
-        taken = grind (arith, length-take-le)
+      taken : length (take depth met) ≡ depth
+      taken = grind (arith, length-take-le)
 
-        -- none is found if a set cannot be met at which a digit is chosen
-        pub none_found : (j : ℕ) × (j < length (take depth met))
-            × (get_or (take depth met) j false ≡ false) → (numbers : List ℕ)
-            → AreFoundTo g player numbers number → AreFoundTo g player numbers (number + count)
-        none_found (j, inside, shut) numbers found =
-            let early : j < depth = omega (arith, inside, taken) in
-            let among : j < length digits = omega (arith, early, below.deep) in
-            passed_by g game player numbers number count found below.end
-            (λ n from to. unsettled depth n j (within_all n to) among
-            (unmet_flag n j from to among (sym (get_or-take depth met j false early) ∙ shut))
-            early)
+      -- none is found if a set cannot be met at which a digit is chosen
+      pub none_found : (j : ℕ) × (j < length (take depth met))
+          × (get_or (take depth met) j false ≡ false) → (numbers : List ℕ)
+          → AreFoundTo g p.number numbers number → AreFoundTo g p.number numbers (number + count)
+      none_found (j, inside, shut) numbers found =
+          let early : j < depth = omega (arith, inside, taken) in
+          let among : j < length digits = omega (arith, early, below.deep) in
+          passed_by g is.is_game p.number numbers number count found below.end
+          (λ n from to. unsettled depth n j (within_all n to) among
+          (unmet_flag n j from to among (sym (get_or-take depth met j false early) ∙ shut))
+          early)
 
-        -- if no digit is left, and all sets are met, the only one is found
-        pub last_firsts : left ≡ []
-            → ((k : ℕ) → k < length (take depth met) → get_or (take depth met) k false ≡ true)
-            → AreFirstBelow g player number count
-        last_firsts none all_met n from to =
-            let end : length digits ≤ depth =
-            omega (arith, ap length (below.rest ∙ none), length-drop depth digits) in
-            settled_first depth n (within_all n to) (λ j early.
-            let inside : j < depth = omega (arith, early, end) in
-            below.tells n j from to early
-            ∙ ap (λ (ds : List OwnDigit).
-            is_left j (steps_to ds) (choices_at g player ds n) level) none
-            ∙ left_all j level
-            ∙ sym (marks.marked j (omega (arith, early, below.levelled.counted)))
-            ∙ sym (get_or-take depth met j false inside)
-            ∙ all_met j (omega (arith, inside, taken)))
+      -- if no digit is left, and all sets are met, the only one is found
+      pub last_firsts : left ≡ []
+          → ((k : ℕ) → k < length (take depth met) → get_or (take depth met) k false ≡ true)
+          → AreFirstBelow g p.number number count
+      last_firsts none all_met n from to =
+          let end : length digits ≤ depth =
+          omega (arith, ap length (below.rest ∙ none), length-drop depth digits) in
+          settled_first depth n (within_all n to) (λ j early.
+          let inside : j < depth = omega (arith, early, end) in
+          below.tells n j from to early
+          ∙ ap (λ (ds : List OwnDigit).
+          is_left j (steps_to ds) (choices_at g p.number ds n) level) none
+          ∙ left_all j level
+          ∙ sym (marks.marked j (omega (arith, early, below.levelled.counted)))
+          ∙ sym (get_or-take depth met j false inside)
+          ∙ all_met j (omega (arith, inside, taken)))
 
-    -- all are found if only the first action was tried at a digit whose set cannot be met
-    pub all_found : {d : OwnDigit} {faster : List OwnDigit} {level : Level}
-        {depth number count : ℕ}
-        (below : IsSearched g player digits (d ∷ faster) level depth number count)
-        {met : List Bool} (marks : Marks level met) (tried : ℕ)
-        → tried ≡ (if get_or met depth false then d.actions else 1) → (numbers : List ℕ)
-        → AreFoundTo g player numbers (number + tried * (count / d.actions))
-        → AreFoundTo g player numbers (number + count)
-    all_found {d} {faster} {level} {depth} {number} {count} below {met} marks tried tried_is numbers
-        found =
-        let row = count / d.actions in
-        let here = digit_here digits depth d faster below.rest in
-        elim (cases_Bool (get_or met depth false)) [
-          | inl e ↦ rw (rows_are below.turn) at (rw (tried_is, e) at found)
-          | inr e ↦
-              let one : number + 1 * row ≡ number + row = omega arith in
-              let some = some_actions below.turn in
-              let end : number + row + (count - row) ≡ number + count =
-              omega (arith, rows_are below.turn, some, mul-le-mul_right row some) in
-              rw end at (passed_by g game player numbers (number + row) (count - row)
-              (rw one at (rw (tried_is, e) at found)) (omega (arith, end, below.end))
-              (λ n from to.
-              let before_end : n < number + count = omega (arith, to, end) in
-              let within : n < length all = omega (arith, before_end, below.end) in
-              let flag = unmet_flag below marks n depth (omega (arith, from)) before_end here.0 e in
-              let at : (digit_at digits depth).place ≡ d.place =
-              ap (λ (d : OwnDigit). d.place) here.2 in
-              repeated g game player n d.place within
-              (subst (λ (q : ℕ). q < length counts) at (place_inside depth here.0))
-              (grind (arith, flag, at))
-              (moved below n from before_end)))
-        ]
+  -- all are found if only the first action was tried at a digit whose set cannot be met
+  pub all_found : {d : OwnDigit} {faster : List OwnDigit} {level : Level}
+      {depth number count : ℕ}
+      (below : IsSearched p (d ∷ faster) level depth number count)
+      {met : List Bool} (marks : Marks level met) (tried : ℕ)
+      → tried ≡ (if get_or met depth false then d.actions else 1) → (numbers : List ℕ)
+      → AreFoundTo g p.number numbers (number + tried * (count / d.actions))
+      → AreFoundTo g p.number numbers (number + count)
+  all_found {d} {faster} {level} {depth} {number} {count} below {met} marks tried tried_is numbers
+      found =
+      let row = count / d.actions in
+      let here = digit_here digits depth d faster below.rest in
+      elim (cases_Bool (get_or met depth false)) [
+        | inl e ↦ rw (rows_are below.turn) at (rw (tried_is, e) at found)
+        | inr e ↦
+            let one : number + 1 * row ≡ number + row = omega arith in
+            let some = some_actions below.turn in
+            let end : number + row + (count - row) ≡ number + count =
+            omega (arith, rows_are below.turn, some, mul-le-mul_right row some) in
+            rw end at (passed_by g is.is_game p.number numbers (number + row) (count - row)
+            (rw one at (rw (tried_is, e) at found)) (omega (arith, end, below.end))
+            (λ n from to.
+            let before_end : n < number + count = omega (arith, to, end) in
+            let within : n < length all = omega (arith, before_end, below.end) in
+            let flag = unmet_flag below marks n depth (omega (arith, from)) before_end here.0 e in
+            let at : (digit_at digits depth).place ≡ d.place =
+            ap (λ (d : OwnDigit). d.place) here.2 in
+            repeated g is.is_game p.number n d.place within
+            (subst (λ (q : ℕ). q < length counts) at (place_inside depth here.0))
+            (grind (arith, flag, at))
+            (moved below n from before_end)))
+      ]
 
 pub ruleset search_steps = (some_actions, step_fits, nil_from_length)

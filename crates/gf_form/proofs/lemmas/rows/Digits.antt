@@ -2,14 +2,14 @@
 -- changes, and which choices meet it; the places of sets and of their digits, and how digits are made
 -- set by set, from the fastest on.
 use Rattle.gf_form.proofs.Common
-use Common.{get_or_append_left, get_or-append-add, mul-le-mul_right, InformationSet, div-mul_cancel}
-use Common.{length-append, append_assoc, mod-eq_of_lt, AllZip-long, AreDigitsOf, ArePositive, Digit}
-use Common.{div-mul-add, steps_after, append-nil, strides_of, AreDigits, AreMadeOf, ArePlaced, Bool}
-use Common.{and_parts, drop-cons, mul_above, mul_assoc, take_more, cases_lt, demanded, dvd_refl, []}
-use Common.{in_order, map_more, map_push, mul_comm, steps_of, add-one, product, AllZip, SetKey, inl}
-use Common.{eq-eqb, get_or, length, lt-ltb, ne_eqb, picked, set_at, arith, false, meets, spans, inr}
-use Common.{width, Game, List, Some, drop, refl, take, true, zero, ◌&&◌, ◌++◌, ◌==◌, ◌||◌, map, set}
-use Common.{suc, sym, ◌%◌, ◌*◌, ◌+◌, ◌-◌, ◌/◌, ◌<◌, ◌^◌, ◌∙◌, ◌∣◌, ◌∷◌, ◌≡◌, ◌≤◌, ap, ℕ}
+use Common.{get_or_append_left, get_or-append-add, mul-le-mul_right, InformationSet, length-append}
+use Common.{div-mul_cancel, append_assoc, mod-eq_of_lt, AllZip-long, AreDigitsOf, ArePositive, inl}
+use Common.{div-mul-add, steps_after, append-nil, map-append, strides_of, AreDigits, AreMadeOf, []}
+use Common.{ArePlaced, and_parts, drop-cons, mul_above, mul_assoc, cases_lt, demanded, dvd_refl, ℕ}
+use Common.{in_order, mul_comm, steps_of, add-one, product, AllZip, SetKey, eq-eqb, get_or, length}
+use Common.{lt-ltb, ne_eqb, picked, set_at, Digit, arith, false, meets, spans, width, Bool, Game}
+use Common.{List, Some, drop, refl, true, zero, ◌&&◌, ◌++◌, ◌==◌, ◌||◌, inr, map, set, suc, sym}
+use Common.{◌%◌, ◌*◌, ◌+◌, ◌-◌, ◌/◌, ◌<◌, ◌^◌, ◌∙◌, ◌∣◌, ◌∷◌, ◌≡◌, ◌≤◌, ap}
 use Rattle.std.proofs.lemmas.Bool.{le-leb, le-ltb, lt-leb}
 use Rattle.std.proofs.Math.Nat.{add-mul-mod_self_right, dvd-mul_left_of_dvd, mul-add-div}
 pub use Rattle.gf_form.specs.inner.rows.Demands.{pack}
@@ -331,36 +331,20 @@ stride_more actions later strides place choices some within positive few before 
 
 -- ---- player by player
 
-in_order_more : (all : List (List ℕ)) (own : List ℕ)
+pub in_order_more : (all : List (List ℕ)) (own : List ℕ)
     → in_order (all ++ own ∷ []) ≡ own ++ in_order all
 in_order_more [] own = sym (append-nil own)
 in_order_more (first ∷ all) own = grind (arith, append_assoc, in_order_more all own)
 
-pub player_order : (counts : List (List ℕ)) (i : ℕ) → i < length counts
-    → in_order (take (i + 1) counts) ≡ get_or counts i [] ++ in_order (take i counts)
-player_order counts i less =
-    ap in_order (take_more counts i [] less) ∙ in_order_more (take i counts) (get_or counts i [])
-
 pub player_made : (made : List ℕ → List ℕ) → ((counts : List ℕ)
-    → length (made counts) ≡ length counts) → (counts : List (List ℕ)) (i : ℕ) (own : List ℕ)
-    (all next : List (List ℕ)) → i < length counts → next ≡ all ++ own ∷ []
-    → own ++ made (in_order (take i counts)) ≡ made (in_order (take (i + 1) counts))
-    → AreMadeOf made (take i counts) all → AreMadeOf made (take (i + 1) counts) next
-player_made made long counts i own all next less is more before =
-    let same : length own ≡ length (get_or counts i []) = omega (
-      arith,
-      ap length more,
-      ap length (player_order counts i less),
-      long (in_order (take i counts)),
-      long (in_order (take (i + 1) counts)),
-      length-append own (made (in_order (take i counts))),
-      length-append (get_or counts i []) (in_order (take i counts)),
-    ) in
-    record {
-      each = grind (arith, in_order_more);
-      as_many = ap (map length) is ∙ map_push length all own
-          ∙ (λ k. before.as_many k ++ same k ∷ []) ∙ sym (map_more length counts i [] less);
-    }
+    → length (made counts) ≡ length counts) → (counts : List (List ℕ)) (count own : List ℕ)
+    (all next : List (List ℕ)) → next ≡ all ++ own ∷ []
+    → own ++ made (in_order counts) ≡ made (count ++ in_order counts)
+    → AreMadeOf made counts all → AreMadeOf made (counts ++ count ∷ []) next
+player_made made long counts count own all next is more before =
+    let same : length own ≡ length count =
+    grind (arith, long (in_order counts), long (count ++ in_order counts), length-append) in
+    grind (arith, in_order_more, map-append)
 
 -- ---- what the steps of the code need
 

@@ -16,8 +16,8 @@ use Rattle.gf_form.proofs.lemmas.strategies.Choices.{long}
 use Rattle.gf_form.proofs.lemmas.strategies.CountedActions.{strategies_positive, actions_positive}
 use Rattle.gf_form.proofs.lemmas.strategies.CountedActions.{product_positive, as_many_players}
 use Rattle.gf_form.proofs.lemmas.strategies.CountedActions.{strategy_counts, product_within}
-use Rattle.gf_form.proofs.lemmas.strategies.CountedActions.{product_more, actions_in, of_player}
-use Rattle.gf_form.proofs.lemmas.rows.Digits.{product_joined, player_order, faster_part, are_digits}
+use Rattle.gf_form.proofs.lemmas.strategies.CountedActions.{product_more, next_player, of_player}
+use Rattle.gf_form.proofs.lemmas.rows.Digits.{product_joined, in_order_more, faster_part, are_digits}
 use Rattle.gf_form.proofs.lemmas.rows.Digits.{among_all, as_long}
 use Rattle.std.proofs.Math.Nat.{dvd-mul_left_of_dvd}
 use Rattle.gf_form.proofs.lemmas.strategies.PickedProfiles.{numbered_strategies, numbered}
@@ -196,13 +196,15 @@ module _ (g : Game) (game : IsGame g) where
       λ i. sym (length-all_choices (action_counts g player)) i ∷ products_for players i
 
   -- there are few choices at the sets of the first players
-  pub first_few : (c : Counts) → AreCounts g c → (i : ℕ) → i < length (actions_in c)
-      → ArePositive (get_or (actions_in c) i [] ++ in_order (take i (actions_in c)))
-      × (product (get_or (actions_in c) i [] ++ in_order (take i (actions_in c))) < 2 ^ 32)
+  pub first_few : (c : Counts) → AreCounts g c → (i : ℕ) → i < length g.players
+      → ArePositive (action_counts g (i + 1)
+      ++ in_order (take i (map (action_counts g) (players_of g))))
+      × (product (action_counts g (i + 1)
+      ++ in_order (take i (map (action_counts g) (players_of g)))) < 2 ^ 32)
   first_few c are i less =
       let first = take (i + 1) (players_of g) in
       let all = strategy_counts g in
-      let inside : i < length all = grind (arith, as_many_players, are.actions) in
+      let inside : i < length all = omega (arith, less, as_many_players) in
       let more = product_more all i inside in
       let within = product_within all i (strategies_positive g game) inside in
       let taken : product (take (i + 1) all) ≤ product all = grind (arith, add-one, more, within) in
@@ -214,7 +216,7 @@ module _ (g : Game) (game : IsGame g) where
       ) in
       let few : product (in_order (map (action_counts g) first)) < 2 ^ 32 =
       omega (arith, count, taken, length-profiles all, are.within) in
-      rw (← player_order (actions_in c) i less, are.actions, take-map)
+      rw (← in_order_more _ (action_counts g (i + 1)), ← next_player g (action_counts g) i less, take-map)
       (positive_for first, few)
 
 module _ (g : Game) (game : IsGame g) (d : Digits) (values : ℕ) where

@@ -170,17 +170,9 @@ pub own_at : (all : List (Vec ℕ Global)) (i : ℕ) (own : Vec ℕ Global) → 
     → (get_or all i own).items ≡ get_or (map (λ own. own.items) all) i []
 own_at all i own less = sym (get_or-map (λ (own : Vec ℕ Global). own.items) all i own [] less)
 
--- the numbers of actions of each player
-abbrev pub actions_in : Counts → List (List ℕ)
-actions_in c = map (λ own. own.items) c.actions.items
-
-module _ (g : Game) (c : Counts) (counts : AreCounts g c) where
-  pub all_counted : length c.actions.items ≡ length g.players
-  all_counted = grind (arith, length-map, as_many_players)
-
-  pub actions_of : (i : ℕ) → i < length c.actions.items
-      → get_or (actions_in c) i [] ≡ action_counts g (i + 1)
-  actions_of i less = cc (of_player g (action_counts g) i [] (omega (arith, less, all_counted)))
+pub all_counted : (g : Game) (c : Counts) → AreCounts g c
+    → length c.actions.items ≡ length g.players
+all_counted g c counts = grind (arith, length-map, as_many_players)
 
 pub ruleset action_steps = (count_there, length-map)
 

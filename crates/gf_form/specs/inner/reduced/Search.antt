@@ -6,6 +6,7 @@ use Rattle.gf_nfg.specs.Profiles.{product}
 use Rattle.std.specs.Cmp.Lexicographic.{pointwise}
 use Rattle.gf_tree.specs.FiniteMap.{first_uses}
 use Rattle.gf_tree.specs.Game.{Game}
+use Rattle.gf_tree.specs.IsGame.{IsGame}
 use Rattle.gf_form.specs.Reduced.{reduced, same_choice}
 use Rattle.gf_form.specs.Strategies.{action_counts, all_choices, strategies}
 use Rattle.gf_form.specs.inner.reduced.Levels.{IsLevel, is_left}
@@ -13,6 +14,7 @@ use Rattle.gf_form.specs.inner.reduced.OwnDigits.{digits_from}
 use Rattle.gf_form.specs.inner.reduced.Shown.{relevant_sets}
 use Rattle.gf_form.specs.inner.reduced.Visits.{is_met}
 use Rattle.gf_form.specs.declared.reduced.digits.OwnDigit.{OwnDigit}
+use Rattle.gf_form.specs.declared.reduced.first.Player.{Player}
 use Rattle.gf_form.specs.declared.reduced.level.Level.{Level}
 use Rattle.gf_form.specs.declared.reduced.visits.Visit.{Visit}
 
@@ -62,6 +64,15 @@ pub record ChooseInTurn (g : Game) (player : ℕ) (digits : List OwnDigit) (coun
   pub chosen : (n : ℕ) → n < length (strategies g player) → choices_at g player digits n
       ≡ get_or (all_choices (actions_of digits)) (n % count) []
 
+-- ---- a player
+
+-- what is counted of a player is so in the game, and the digits are those of his sets
+pub record IsPlayer (p : Player) : Type 0 where
+  pub is_game : IsGame p.game.now
+  pub counts : p.counts.now ≡ action_counts p.game.now p.number
+  pub whole : p.whole ≡ product (action_counts p.game.now p.number)
+  pub digits : p.digits.items ≡ digits_from 0 (action_counts p.game.now p.number)
+
 -- ---- first strategies
 
 -- The set of the digit at a place is relevant, or the digit is one of the first ones, as many as
@@ -71,24 +82,23 @@ is_settled g player all depth number j =
     is_relevant_at g player number (digit_at all j).place
     || (nat_lt j depth && get_or (numbered g player number) (digit_at all j).place 0 == 1)
 
--- As many of all digits are chosen as the depth says, and these are left. The strategies with numbers
--- from this one on, as many as the count says, have all choices there in turn, and the level tells
--- which digits are settled under each of them.
-pub record IsSearched (g : Game) (player : ℕ) (all digits : List OwnDigit) (level : Level)
+-- As many of a player's digits are chosen as the depth says, and these are left. The strategies with
+-- numbers from this one on, as many as the count says, have all choices there in turn, and the level
+-- tells which digits are settled under each of them.
+pub record IsSearched (p : Player) (digits : List OwnDigit) (level : Level)
     (depth number count : ℕ) : Type 0
   where
-    pub all_are : all ≡ digits_from 0 (action_counts g player)
-    pub rest : drop depth all ≡ digits
-    pub deep : depth ≤ length all
-    pub turn : ChooseInTurn g player digits count
+    pub rest : drop depth p.digits.items ≡ digits
+    pub deep : depth ≤ length p.digits.items
+    pub turn : ChooseInTurn p.game.now p.number digits count
     pub row : ℕ
     pub start : number ≡ row * count
-    pub end : number + count ≤ length (strategies g player)
-    pub few : length (strategies g player) < 2 ^ 32
-    pub levelled : IsLevel (length all) level
-    pub tells : (n j : ℕ) → number ≤ n → n < number + count → j < length all
-        → is_settled g player all depth n j
-        ≡ is_left j (steps_to digits) (choices_at g player digits n) level
+    pub end : number + count ≤ length (strategies p.game.now p.number)
+    pub few : length (strategies p.game.now p.number) < 2 ^ 32
+    pub levelled : IsLevel (length p.digits.items) level
+    pub tells : (n j : ℕ) → number ≤ n → n < number + count → j < length p.digits.items
+        → is_settled p.game.now p.number p.digits.items depth n j
+        ≡ is_left j (steps_to digits) (choices_at p.game.now p.number digits n) level
 
 -- the strategy with a number has the first action at each set that is not relevant under it: of
 -- those that reduce to the same one, it is the first

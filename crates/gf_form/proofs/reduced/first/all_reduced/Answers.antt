@@ -1,6 +1,6 @@
-use Rattle.gf_form.proofs.Common.{length, arith, ◌≡◌}
+use Rattle.gf_form.proofs.Common.{all_zipped_more, numbers_joined, map-append, length, arith, ◌≡◌}
 use Rattle.gf_form.proofs.lemmas.strategies.CountedActions.{all_counted}
-use Rattle.gf_form.proofs.lemmas.reduced.FirstStrategies.{first_steps, one_player_more}
+use Rattle.gf_form.proofs.lemmas.reduced.FirstStrategies.{first_steps}
 use Rattle.gf_form.proofs.reduced.first.all_reduced.Goals as goal
 
 pub overflow_cast-player : goal.overflow_cast-player
@@ -11,9 +11,8 @@ overflow_add-player c = grind (arith, first_steps)
 
 pub loop-place-preserved : goal.loop-place-preserved
 loop-place-preserved c =
-    one_player_more c.args.game.now c.loop-place.place _ _ c.in_ok-own.own _ _ _
-    c.loop-place.invariant c.in_ok-own.ensures.firsts c.in_ok-own.ensures.labels
-    c.in_ok-push.ensures.items c.in_ok-push-2.ensures.items
+    let numbers = numbers_joined 1 c.loop-place.place 1 in
+    grind (arith, numbers, all_zipped_more, map-append)
 
 pub returns : goal.returns
 returns c =

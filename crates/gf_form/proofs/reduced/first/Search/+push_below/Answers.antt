@@ -6,32 +6,31 @@ use Rattle.gf_form.proofs.reduced.first.Search.+push_below.Goals as goal
 
 pub push_all-requires-clause-firsts : goal.push_all-requires-clause-firsts
 push_all-requires-clause-firsts t c =
-    known_firsts _ c.requires.is_game _ _ c.requires.below.all_are c.requires.below
+    known_firsts c.requires.player c.requires.below
     ((rw c.deref.ensures.value at c.are_set.ensures.set) c.if-are_set.true)
 
 pub push_all-requires-in_default-clause-firsts
     : goal.push_all-requires-in_default-clause-firsts
 push_all-requires-in_default-clause-firsts t c =
-    last_firsts _ c.requires.is_game _ _ c.requires.below.all_are c.requires.below
-    c.in_ok-mark.ensures (nil_from_length _ c.in_default.ensures.cases)
+    last_firsts c.requires.player c.requires.below c.in_ok-mark.ensures
+    (nil_from_length _ c.in_default.ensures.cases)
     ((rw c.deref-2.ensures.value at c.are_set-2.ensures.set) c.if-not-are_set.false)
 
 pub returns-then-not-are_set : goal.returns-then-not-are_set
 returns-then-not-are_set t c = record {
-  found = none_found _ c.requires.is_game _ _ c.requires.below.all_are c.requires.below
-      c.in_ok-mark.ensures
+  found = none_found c.requires.player c.requires.below c.in_ok-mark.ensures
       ((rw c.deref-2.ensures.value at c.are_set-2.ensures.unset) c.if-not-are_set.true) _
       c.requires.found;
 }
 
 pub push_below-requires : goal.push_below-requires
 push_below-requires t c =
-    let r = c.requires in
-    let next = next_searched (rw c.in-Some.ensures.cases.0 at r.below) c.loop-before.before
+    let below = rw c.in-Some.ensures.cases.0 at c.requires.below in
+    let next = next_searched below c.loop-before.before
     (omega (arith, c.loop-before-test.true, c.actions_tried-tried.ensures.upto))
     c.in_ok-choose_at.ensures.level c.from.ensures c.in_ok-choose_at.ensures.chosen in (
       omega (arith, c.decreases, ap length c.in-Some.ensures.cases.0),
-      (r.is_game, (next, c.loop-before.invariant)),
+      (c.requires.player, (next, c.loop-before.invariant)),
     )
 
 pub loop-before-preserved : goal.loop-before-preserved
@@ -48,8 +47,7 @@ returns t c =
     let below = rw c.in-Some.ensures.cases.0 at c.requires.below in
     let end : c.loop-before.before ≡ c.actions_tried-tried.result =
     omega (arith, c.loop-before-test.false, c.loop-before.auto.before-end) in record {
-      found = all_found _ c.requires.is_game _ _ below.all_are below c.in_ok-mark.ensures _
-          (end ∙ c.actions_tried-tried.ensures.all) _ c.loop-before.invariant;
+      found = all_found c.requires.player below c.in_ok-mark.ensures _ (end ∙ c.actions_tried-tried.ensures.all) _ c.loop-before.invariant;
     }
 
 pub actions_tried-tried-requires-clause-there : goal.actions_tried-tried-requires-clause-there

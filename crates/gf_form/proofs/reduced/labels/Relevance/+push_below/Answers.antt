@@ -1,6 +1,6 @@
-use Rattle.gf_form.proofs.Common.{take-append-drop, nil_from_length, append_assoc, on_ok_weaker, []}
-use Rattle.gf_form.proofs.Common.{slice_get, AreGiven, length, Found, arith, subst, List, Some, sym}
-use Rattle.gf_form.proofs.Common.{refl, ◌++◌, ◌+◌, ◌-◌, ◌∙◌, ◌≡◌, ap}
+use Rattle.gf_form.proofs.Common.{take-append-drop, nil_from_length, append_assoc, on_ok_weaker}
+use Rattle.gf_form.proofs.Common.{AreGiven, length, Found, arith, subst, List, refl, ◌++◌, sym, []}
+use Rattle.gf_form.proofs.Common.{◌+◌, ◌∙◌, ◌≡◌, ap}
 use Rattle.std.proofs.lemmas.List.Sorted.{IsPermutation-refl}
 use Rattle.gf_form.proofs.lemmas.reduced.RowsGiven.{given_permuted, nothing_given, both_given}
 use Rattle.gf_form.proofs.lemmas.reduced.RowsGiven.{told_chosen, told_free}
@@ -10,15 +10,14 @@ use Rattle.gf_form.proofs.reduced.labels.Relevance.+push_below.Goals as goal
 pub push_below-requires : goal.push_below-requires
 push_below-requires t c =
     let turn = rw c.in-Some.ensures.cases.0 at c.requires.turn in
-    let told = rw c.in-Some.ensures.cases.0 at c.requires.told in
-    let visits = c.args.level.now.visits.items in
-    let last : slice_get visits (length visits - 1) ≡ Some c.in-Some-last.last.now =
-    grind (arith, c.in-Some-last.ensures.value, c.deref.ensures.value) in (
+    let told = rw c.in-Some.ensures.cases.0 at c.requires.told in (
       omega (arith, c.decreases, ap length c.in-Some.ensures.cases.0),
       (
         turn_next turn,
         (
-          told_free turn _ _ _ told last c.if-last-digit.true (IsPermutation-refl _),
+          told_free turn _ _ c.in-Some-last.last.now told
+              (grind (arith, c.in-Some-last.ensures.value, c.deref.ensures.value))
+              c.if-last-digit.true (IsPermutation-refl _),
           c.requires.room,
         ),
       ),
@@ -27,15 +26,13 @@ push_below-requires t c =
 pub push_below-requires-then-last-digit : goal.push_below-requires-then-last-digit
 push_below-requires-then-last-digit t c =
     let turn = rw c.in-Some.ensures.cases.0 at c.requires.turn in
-    let told = rw c.in-Some.ensures.cases.0 at c.requires.told in
-    let visits = c.args.level.now.visits.items in
-    let last : slice_get visits (length visits - 1) ≡ Some c.in-Some-last.last.now =
-    grind (arith, c.in-Some-last.ensures.value, c.deref.ensures.value) in (
+    let told = rw c.in-Some.ensures.cases.0 at c.requires.told in (
       omega (arith, c.decreases, ap length c.in-Some.ensures.cases.0),
       (
         turn_next turn,
         (
-          rw c.deref-then-last-digit.ensures.value (told_free turn _ _ _ told last
+          rw c.deref-then-last-digit.ensures.value (told_free turn _ _ c.in-Some-last.last.now told
+              (grind (arith, c.in-Some-last.ensures.value, c.deref.ensures.value))
               c.if-last-digit.true c.in_ok-ordered.ensures),
           c.requires.room,
         ),
@@ -99,9 +96,8 @@ loop-digit-preserved t c =
 pub returns : goal.returns
 returns t c =
     let so_far = c.loop-digit.invariant in
-    let none : length c.loop-digit.rest.now ≡ 0 = grind arith in
     let all : so_far.0 ++ [] ≡ c.args.strategies.now =
-    sym (so_far.1 ∙ ap (λ (rest : List Found). so_far.0 ++ rest) (nil_from_length _ none)) in
+    sym (so_far.1 ∙ ap (λ (rest : List Found). so_far.0 ++ rest) (nil_from_length _ (grind arith))) in
     record {
       given = subst (AreGiven c.args.player.now.game.now c.args.player.now.number
           c.args.numbers.now c.args.self.now _) all
