@@ -9,8 +9,9 @@ from fractions import Fraction
 from functools import partial
 from math import gcd
 
-from .games import LIMIT, accepted, braced, ended, fitting, own_lines, quoted, refused
+from .games import LIMIT, accepted, braced, ended, fitting, only, own_lines, quoted, refused
 from .games import table_text, tree_text
+from .met_again import colliding_outcomes, colliding_sets, scattered_outcomes, scattered_sets
 
 SEED = 1
 LARGEST = 2**127 - 1
@@ -202,11 +203,6 @@ def golden_fractions():
 # Trees ---------------------------------------------------------------------------------------------
 
 
-def only(label, payoff):
-    """The canonical text of a table of one player with one strategy."""
-    return table_text("", [""], [[label]], f"{payoff}\n")
-
-
 def plain_tree(width=750, count=8):
     """Two tosses with many sides, and then one of a few moves, whose outcomes differ.
 
@@ -286,43 +282,6 @@ def sets_of_one():
     file = "".join(f'p""1 {number}""{{""}}0\n' for number in numbers) + 't""0'
     text = "".join(f'p "" 1 {number} "" {{ "" }} 0\n' for number in numbers) + 't "" 0\n'
     return tree_of(file, text, only("-".join("1" * len(numbers)), 0), own_lines(1, numbers))
-
-
-def colliding(numbers):
-    """Those that the kit's fast hasher puts among the first buckets of a map, from its fixed start."""
-    start, multiplier = 0x243F_6A88_85A3_08D3, 0x9E37_79B9_7F4A_7C15 ^ 8
-    for number in numbers:
-        product = (start ^ number * 0x1_0000_0001) * multiplier
-        if (product ^ product >> 32 ^ product >> 64 ^ product >> 96) & 0xFFFF < 0x200:
-            yield number
-
-
-def sets_met_again(numbers):
-    """One move below another, first at each set, and then at any of them again."""
-    uses = random.Random(SEED).choices(range(len(numbers)), k=fitting(50 * len(numbers), 'p""1 1000000000 0\n'))
-
-    def moves(given):
-        first = "".join(f'p "" 1 {number} "" {{ "on" }} 0\n' for number in given)
-        return first + "".join(f'p "" 1 {given[use]} 0\n' for use in uses) + 't "" 0\n'
-
-    file = f'EFG 2 R ""{{""}}{moves(numbers).replace(chr(34) + " ", chr(34))}'
-    text = tree_text("", [""], moves(range(1, len(numbers) + 1)))
-    lines = "".join(f"set 1 {number} {place}\n" for place, number in enumerate(numbers, 1))
-    form = only("-".join("1" * len(numbers)), 0)
-    return accepted("tree", file, text, form=form, other=text, lines=lines)
-
-
-MET_AGAIN = 40_000
-
-
-def colliding_sets():
-    """Numbers whose hashes would be alike if the hasher had a fixed start."""
-    return sets_met_again(list(itertools.islice(colliding(itertools.count(10**9)), MET_AGAIN)))
-
-
-def scattered_sets():
-    """The same with any numbers."""
-    return sets_met_again(random.Random(SEED).sample(range(10**9, 2**32), MET_AGAIN))
 
 
 def nested_outcomes():
@@ -462,6 +421,7 @@ FILES = {
     "players with a set each": (players_with_sets, plain_tree),
     "sets of one player": (sets_of_one, plain_tree),
     "colliding sets": (colliding_sets, scattered_sets),
+    "colliding outcomes": (colliding_outcomes, scattered_outcomes),
     "nested outcomes": (nested_outcomes, plain_tree),
     "a wide move": (wide_move, plain_tree),
     "a million sides": (million_sides, plain_tree),

@@ -137,3 +137,8 @@ def tree_text(title, players, nodes):
 def own_lines(player, numbers):
     """The lines by which each set of a player keeps its number."""
     return "".join(f"set {player} {number} {number}\n" for number in numbers)
+
+
+def only(label, payoff):
+    """The canonical text of a table of one player with one strategy."""
+    return table_text("", [""], [[label]], f"{payoff}\n")

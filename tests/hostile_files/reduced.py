@@ -4,6 +4,7 @@ import random
 from fractions import Fraction
 from functools import cache, partial
 
+from . import hasher
 from .games import Answer, table_text
 from .shapes import SEED, SOME_ROWS, sets_below, side_by_side
 from .trees import Tree
@@ -169,17 +170,9 @@ def sets_in_conflict(sets):
     return tree.game()
 
 
-def folded(a, b):
-    """The step of the kit's fast hasher."""
-    product = a * b
-    return (product ^ product >> 64) & 2**64 - 1
-
-
 def visits_collide(demands, number):
     """Whether the kit's fast hasher, from its fixed start, puts a visit among the first buckets of a set."""
-    start, multiplier = 0x243F_6A88_85A3_08D3, 0x9E37_79B9_7F4A_7C15
-    found = folded(folded(start ^ demands, multiplier ^ 16) ^ number * 0x1_0000_0001, multiplier ^ 8)
-    return (found ^ found >> 32) & 0xFFFF < 0x2000
+    return hasher.is_early(hasher.after(hasher.folded(hasher.START, demands, 8), number), 0x2000)
 
 
 def visits_again(sets, actions, times, collide):
