@@ -16,11 +16,11 @@ use Rattle.gf_fraction.proofs.SpelledIsFound.{Unsigned, Unsigned-digits}
 use Rattle.gf_fraction.proofs.SpelledIsFound.{digit_unsigned, ascii_from_digit}
 use Rattle.gf_fraction.proofs.SpelledIsFound.{sign_split, scan_shape, capped_exponent, held}
 use Rattle.gf_fraction.proofs.FoundIsSpelled.{FoundNumber}
+use Rattle.gf_fraction.specs
 
 -- no shape begins with a sign
 Unsigned-append : (text more : List ℕ) → 0 < length text → Unsigned text → Unsigned (text ++ more)
-Unsigned-append [] more some h = absurd (omega arith)
-Unsigned-append (c ∷ cs) more some h = h
+Unsigned-append text more some h = grind arith
 
 plain_unsigned : (text digits : List ℕ) (places : ℕ) → IsPlain text digits places
     → Unsigned text × (0 < length text)

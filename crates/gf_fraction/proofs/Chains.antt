@@ -18,10 +18,6 @@ plus_left {x} {u} y hy h = plus_both x u y y h (equal_refl y hy)
 pub plus_right : {y v : Ratio} (x : Ratio) → IsAbove x → IsEqual y v → IsEqual (plus x y) (plus x v)
 plus_right {y} {v} x hx h = plus_both x x y v (equal_refl x hx) h
 
-pub times_left : {x u : Ratio} (y : Ratio) → IsAbove y → IsEqual x u
-    → IsEqual (times x y) (times u y)
-times_left {x} {u} y hy h = times_both x u y y h (equal_refl y hy)
-
 pub times_right : {y v : Ratio} (x : Ratio) → IsAbove x → IsEqual y v
     → IsEqual (times x y) (times x v)
 times_right {y} {v} x hx h = times_both x x y v (equal_refl x hx) h

@@ -1,7 +1,7 @@
 -- Computed sums and products are those of the relations.
 use Rattle.std.proofs.Common.{◌≡◌, ℕ, ℤ, pos, suc, zero, ◌*◌, ◌/◌, ◌%◌, ◌^◌, ◌<◌}
 use Rattle.std.proofs.Common.{Bool, true, false, Option, Some, None, MatchOption}
-use Rattle.std.proofs.Common.{arith, refl, sym, subst, inl, inr, ◌⊎◌}
+use Rattle.std.proofs.Common.{arith, refl, sym, subst, ◌⊎◌}
 use Rattle.std.specs.Prelude.{◌&&◌, ◌*ℤ◌, ◌+ℤ◌, unsigned_abs, int_lt, nat_lt, if◌then◌else◌}
 use Rattle.std.specs.Int.{IsGcd}
 use Rattle.std.proofs.lemmas.Bool.{ltb-true, ltb-false, lt-ltb, and_from}
@@ -185,20 +185,8 @@ module _ (x y : Ratio) (hx : IsFraction x) (hy : IsFraction y) where
 -- so it is decided whether they fit
 pub sum_or_overflow : (x y : Ratio) → IsFraction x → IsFraction y
     → ((r : Ratio) × SumFits x y × IsFraction r × IsSum r x y) ⊎ (¬ (SumFits x y))
-sum_or_overflow x y hx hy = by_cases (sum_of x y) (sum_is_computed x y hx hy)
-  where
-    by_cases : (o : Option Ratio)
-        → MatchOption o (¬ (SumFits x y)) (λ r. SumFits x y × IsFraction r × IsSum r x y)
-        → ((r : Ratio) × SumFits x y × IsFraction r × IsSum r x y) ⊎ (¬ (SumFits x y))
-    by_cases None h = inr h
-    by_cases (Some r) h = inl (r, h.0, h.1, h.2)
+sum_or_overflow x y hx hy = grind (arith, sum_is_computed x y hx hy)
 
 pub product_or_overflow : (x y : Ratio) → IsFraction x → IsFraction y
     → ((r : Ratio) × IsFraction r × IsProduct r x y) ⊎ (¬ (ProductFits x y))
-product_or_overflow x y hx hy = by_cases (product_of x y) (product_is_computed x y hx hy)
-  where
-    by_cases : (o : Option Ratio)
-        → MatchOption o (¬ (ProductFits x y)) (λ r. IsFraction r × IsProduct r x y)
-        → ((r : Ratio) × IsFraction r × IsProduct r x y) ⊎ (¬ (ProductFits x y))
-    by_cases None h = inr h
-    by_cases (Some r) h = inl (r, h.0, h.1)
+product_or_overflow x y hx hy = grind (arith, product_is_computed x y hx hy)

@@ -93,8 +93,7 @@ IsLowest-div n d k g h is =
 
 -- nothing is shared if only 1 can be
 pub IsLowest-apart : (n d k : ℕ) → HoldsCommon n d k → IsGcd n k 1 → IsLowest n d n d
-IsLowest-apart n d k h is =
-    record { by = 1; num = omega arith; den = omega arith; apart = IsGcd-common n d k 1 h is }
+IsLowest-apart n d k h is = grind (arith, IsGcd-common n d k 1 h is)
 
 pub IsLowest-same : (n d k : ℕ) → HoldsCommon n d k → k ≡ 1 → IsLowest n d n d
 IsLowest-same n d k h one = IsLowest-apart n d k h (rw one (IsGcd-one_right n))

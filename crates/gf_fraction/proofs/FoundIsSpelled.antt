@@ -22,6 +22,7 @@ use Rattle.gf_fraction.proofs.LeadingDigits.{leading_after, capped-after}
 use Rattle.gf_fraction.proofs.SpelledIsFound.{AllDigits-leading, AllDigits-append}
 use Rattle.gf_fraction.proofs.SpelledIsFound.{digits_value_after-append, held, capped_exponent}
 use Rattle.gf_fraction.proofs.SpelledIsFound.{capped_exponent-signed, exponent_if, rational_if}
+use Rattle.gf_fraction.specs
 
 -- a sign, or none, and the rest
 pub record HasSign (text : List ℕ) : Type 0 where
@@ -239,17 +240,4 @@ pub record FoundNumber (text : List ℕ) (negative : Bool) (spelling : Spelling)
 
 pub found_number : (text : List ℕ) (s : Spelling) → scan (after_sign text) ≡ Some s
     → FoundNumber text (is_minus text) s
-found_number text s h =
-    let sign = has_sign text in
-    let f = found (after_sign text) s h in
-    record {
-      reading = f.reading;
-      spelled = record {
-        sign = sign.sign;
-        rest = after_sign text;
-        spelled = sign.spelled;
-        is_sign = sign.is_sign;
-        has_shape = f.shape;
-      };
-      is = f.is;
-    }
+found_number text s h = grind (arith, has_sign text, found (after_sign text) s h)

@@ -3,7 +3,7 @@ use Rattle.std.proofs.Common.{◌≡◌, ℕ, ℤ, pos, ◌+◌, ◌*◌, ◌<�
 use Rattle.std.specs.Prelude.{◌*ℤ◌, ◌+ℤ◌, unsigned_abs, int_lt}
 use Rattle.std.proofs.Math.IntN.{*ℤ_comm}
 use mathlib.Core.Bool.{beq}
-use borrow.Author.Differences.{up, down, product_is, same_in, same_out, sum_is_lem}
+use borrow.Author.Differences.{up, down, product_is, same_in, sum_is_lem}
 use Rattle.gf_fraction.specs.Ratio.{signed}
 
 pub *ℤ_assoc : (a b c : ℤ) → (a *ℤ b) *ℤ c ≡ a *ℤ (b *ℤ c)
@@ -48,14 +48,7 @@ pub *-cancel_right : (m n k : ℕ) → 0 < k → m * k ≡ n * k → m ≡ n
 *-cancel_right m n k above e = grind arith
 
 pub *ℤ-cancel_right : (a b : ℤ) (k : ℕ) → 0 < k → a *ℤ pos k ≡ b *ℤ pos k → a ≡ b
-*ℤ-cancel_right a b k above e =
-    let pa = product_is a (pos k) in
-    let pb = product_is b (pos k) in
-    let o = same_out (a *ℤ pos k) (b *ℤ pos k) e in
-    let u : up a ≡ up b = *-cancel_right (up a) (up b) k above (omega (arith, pa.0, pb.0, o.0)) in
-    let d : down a ≡ down b =
-    *-cancel_right (down a) (down b) k above (omega (arith, pa.1, pb.1, o.1)) in
-    same_in a b (omega (arith, u, d))
+*ℤ-cancel_right a b k above e = grind (arith, *-cancel_right)
 
 pub *ℤ-one : (z : ℤ) → z *ℤ pos 1 ≡ z
 *ℤ-one z = let p = product_is z (pos 1) in same_in _ _ (omega (arith, p.0, p.1))

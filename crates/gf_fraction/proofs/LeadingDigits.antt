@@ -60,8 +60,7 @@ leading_after [] = refl
 leading_after (c ∷ cs) = grind (arith, leading_after cs)
 
 pub length_leading : (text : List ℕ) → length (leading text) + length (unread text) ≡ length text
-length_leading text =
-    sym (length-append (leading text) (unread text)) ∙ ap length (leading_after text)
+length_leading text = cc (length-append (leading text) (unread text), leading_after text)
 
 pub length_after : (text : List ℕ) → length (unread text) ≤ length text
 length_after text = omega (arith, length_leading text)

@@ -21,5 +21,4 @@ pub mod Sums
 pub mod Products
 pub mod Rationals
 pub mod Chains
-pub mod SumsOnce
 pub mod Offered

@@ -63,8 +63,7 @@ reduced_value z low size d p q e is l =
 pub signed_value : (z : ℤ) (size d p q : ℕ) (r : Ratio) → size ≡ unsigned_abs z
     → IsLowest size d p q → r ≡ record { num = signed (int_lt z (pos 0)) p; den = q }
     → HasValue r z d
-signed_value z size d p q r e low is =
-    subst (λ x. HasValue x z d) (sym is) (reduced_value z _ size d p q e low refl)
+signed_value z size d p q r e low is = grind (arith, reduced_value z _ size d p q e low refl)
 
 -- lowest terms, of any size
 pub record IsLowestRatio (r : Ratio) : Type 0 where

@@ -43,8 +43,7 @@ pub record IsOddPart (n t m : ℕ) : Type 0 where
 
 by_lowest : (n t : ℕ) → bit_at n t ≡ 1 → ((i : ℕ) → i < t → bit_at n i ≡ 0)
     → IsOddPart n t (n / 2 ^ t)
-by_lowest n t one zeros =
-    record { odd = one; parts = omega (arith, shr_split n t, low_bits n t zeros) }
+by_lowest n t one zeros = grind (arith, shr_split, low_bits)
 
 pub odd_part : (n t : ℕ) → 0 < n → n < 2 ^ 64 → t ≡ trailing_zeros w64 n → IsOddPart n t (n / 2 ^ t)
 odd_part n t some fits is =

@@ -2,7 +2,7 @@
 pub use Rattle.gf_fraction.proofs.AllElements.{all_at, all_both, all_images, all_joined, all_lists}
 pub use Rattle.gf_fraction.proofs.AllElements.{all_mapped, all_parts, all_weaker}
 pub use Rattle.gf_fraction.proofs.Chains.{back, plus_across, plus_left, plus_right, ◌then◌}
-pub use Rattle.gf_fraction.proofs.Chains.{times_left, times_right}
+pub use Rattle.gf_fraction.proofs.Chains.{times_right}
 pub use Rattle.gf_fraction.proofs.ComputedAnswers.{answer_is, number_again, number_answers}
 pub use Rattle.gf_fraction.proofs.ComputedAnswers.{number_is, number_is_computed}
 pub use Rattle.gf_fraction.proofs.ComputedArithmetic.{lowest_of-fraction, lowest_of-value}
@@ -15,10 +15,9 @@ pub use Rattle.gf_fraction.proofs.Integers.{*-cancel_right, *ℤ-cancel_right, *
 pub use Rattle.gf_fraction.proofs.Integers.{*ℤ_right_comm, add-*ℤ}
 pub use Rattle.gf_fraction.proofs.LowestTerms.{mul_pos_left, mul_pos_right, one_fraction}
 pub use Rattle.gf_fraction.proofs.Products.{mul_above}
-pub use Rattle.gf_fraction.proofs.Rationals.{equal_refl, IsAbove, plus_above, plus_assoc, plus_both}
-pub use Rattle.gf_fraction.proofs.Rationals.{plus_comm, plus_zero, same_parts, times_above}
-pub use Rattle.gf_fraction.proofs.Rationals.{times_assoc, times_both, times_comm, times_one}
-pub use Rattle.gf_fraction.proofs.Rationals.{times_plus, times_zero, total_above}
+pub use Rattle.gf_fraction.proofs.Rationals.{equal_refl, IsAbove, plus_above, plus_both}
+pub use Rattle.gf_fraction.proofs.Rationals.{same_parts, times_above, times_both, times_plus}
+pub use Rattle.gf_fraction.proofs.Rationals.{times_zero}
 pub use Rattle.gf_fraction.proofs.ReadingBack.{one_answer, same_fault, written_is_read}
 pub use Rattle.gf_fraction.proofs.SpelledIsFound.{ascii_from_digit, digit_from_ascii}
 pub use Rattle.gf_fraction.proofs.Sums.{Adding-equal, equal_parts, equal_value, IsLcm-from_gcd}

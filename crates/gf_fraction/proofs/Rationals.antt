@@ -1,13 +1,13 @@
 -- Laws of rationals of any size, up to equality by cross multiplication.
 use Rattle.std.proofs.Common.{◌≡◌, ℕ, ℤ, pos, ◌*◌, ◌<◌, refl, ap, sym}
-use Rattle.std.proofs.Common.{◌∙◌, arith, List, [], ◌∷◌, map}
+use Rattle.std.proofs.Common.{◌∙◌, arith}
 use Rattle.std.specs.Prelude.{◌+ℤ◌, ◌*ℤ◌}
 use Rattle.std.proofs.Math.IntN.{*ℤ_comm, +ℤ_assoc}
 use Rattle.gf_fraction.specs.Ratio.{Ratio}
-use Rattle.gf_fraction.proofs.Integers.{*ℤ_assoc, *ℤ_right_comm, add-*ℤ, *ℤ-one, *ℤ-cancel_right}
+use Rattle.gf_fraction.proofs.Integers.{*ℤ_assoc, *ℤ_right_comm, add-*ℤ, *ℤ-cancel_right}
 use Rattle.gf_fraction.proofs.Products.{mul_above}
-use Rattle.gf_fraction.specs.Rational.{IsEqual, zero_ratio, one_ratio}
-use Rattle.gf_fraction.specs.Rational.{plus, times, total, ratio_product}
+use Rattle.gf_fraction.specs.Rational.{IsEqual, zero_ratio}
+use Rattle.gf_fraction.specs.Rational.{plus, times}
 
 -- ---- denominators above zero
 
@@ -19,17 +19,6 @@ plus_above x y hx hy = mul_above x.den y.den hx hy
 
 pub times_above : (x y : Ratio) → IsAbove x → IsAbove y → IsAbove (times x y)
 times_above x y hx hy = mul_above x.den y.den hx hy
-
-pub total_above : {A : Type 0} (f : A → Ratio) → ((x : A) → IsAbove (f x)) → (xs : List A)
-    → IsAbove (total (map f xs))
-total_above f above [] = omega arith
-total_above f above (x ∷ xs) = grind (arith, plus_above, map, total_above f above xs)
-
-pub ratio_product_above : {A : Type 0} (f : A → Ratio) → ((x : A) → IsAbove (f x)) → (xs : List A)
-    → IsAbove (ratio_product (map f xs))
-ratio_product_above f above [] = omega arith
-ratio_product_above f above (x ∷ xs) =
-    times_above (f x) (ratio_product (map f xs)) (above x) (ratio_product_above f above xs)
 
 -- ---- integers times numbers
 
@@ -79,8 +68,7 @@ plus_both x u y v h k = grind (arith, mul_above, add-*ℤ, part, at)
 
 -- (a * b) * (c * d) is (a * c) * (b * d)
 across : (a b c d : ℤ) → (a *ℤ b) *ℤ (c *ℤ d) ≡ (a *ℤ c) *ℤ (b *ℤ d)
-across a b c d =
-    sym (*ℤ_assoc (a *ℤ b) c d) ∙ ap (λ n. n *ℤ d) (*ℤ_right_comm a b c) ∙ *ℤ_assoc (a *ℤ c) b d
+across a b c d = grind (arith, *ℤ_assoc, *ℤ_right_comm)
 
 pub times_both : (x u y v : Ratio) → IsEqual x u → IsEqual y v → IsEqual (times x y) (times u v)
 times_both x u y v h k = record {
@@ -98,66 +86,14 @@ plus_comm x y hx hy = grind arith
 
 pub plus_assoc : (x y z : Ratio) → 0 < x.den → 0 < y.den → 0 < z.den
     → IsEqual (plus (plus x y) z) (plus x (plus y z))
-plus_assoc x y z hx hy hz =
-    let turned : x.den * z.den ≡ z.den * x.den = omega arith in
-    let back : x.den * y.den ≡ y.den * x.den = omega arith in
-    let left : (x.num *ℤ pos y.den +ℤ y.num *ℤ pos x.den) *ℤ pos z.den
-    ≡ x.num *ℤ pos (y.den * z.den) +ℤ (y.num *ℤ pos z.den) *ℤ pos x.den =
-    add-*ℤ (x.num *ℤ pos y.den) (y.num *ℤ pos x.den) (pos z.den) ∙ (λ i. over x.num y.den z.den i
-    +ℤ (over y.num x.den z.den ∙ at y.num _ _ turned ∙ sym (over y.num z.den x.den)) i) in
-    let right : (y.num *ℤ pos z.den) *ℤ pos x.den +ℤ z.num *ℤ pos (x.den * y.den)
-    ≡ (y.num *ℤ pos z.den +ℤ z.num *ℤ pos y.den) *ℤ pos x.den =
-    ap (λ n. (y.num *ℤ pos z.den) *ℤ pos x.den +ℤ n)
-    (at z.num _ _ back ∙ sym (over z.num y.den x.den))
-    ∙ sym (add-*ℤ (y.num *ℤ pos z.den) (z.num *ℤ pos y.den) (pos x.den)) in
-    same_parts _ _ (mul_above (x.den * y.den) z.den (mul_above x.den y.den hx hy) hz)
-    (ap (λ n. n +ℤ z.num *ℤ pos (x.den * y.den)) left
-    ∙ +ℤ_assoc (x.num *ℤ pos (y.den * z.den))
-    ((y.num *ℤ pos z.den) *ℤ pos x.den) (z.num *ℤ pos (x.den * y.den))
-    ∙ ap (λ n. x.num *ℤ pos (y.den * z.den) +ℤ n) right)
-    (omega arith)
-
-pub times_comm : (x y : Ratio) → 0 < x.den → 0 < y.den → IsEqual (times x y) (times y x)
-times_comm x y hx hy = grind arith
-
-pub times_assoc : (x y z : Ratio) → 0 < x.den → 0 < y.den → 0 < z.den
-    → IsEqual (times (times x y) z) (times x (times y z))
-times_assoc x y z hx hy hz =
-    same_parts _ _ (mul_above (x.den * y.den) z.den (mul_above x.den y.den hx hy) hz)
-    (*ℤ_assoc x.num y.num z.num) (omega arith)
-
-pub times_one : (x : Ratio) → 0 < x.den → IsEqual (times x one_ratio) x
-times_one x hx = same_parts _ _ (mul_above x.den 1 hx (omega arith)) (*ℤ-one x.num) (omega arith)
-
-pub plus_zero : (x : Ratio) → 0 < x.den → IsEqual (plus zero_ratio x) x
-plus_zero x hx = grind arith
+plus_assoc x y z hx hy hz = grind (arith, add-*ℤ, over, same_parts, mul_above, +ℤ_assoc)
 
 mul-plus : (a b c : ℤ) → a *ℤ (b +ℤ c) ≡ a *ℤ b +ℤ a *ℤ c
 mul-plus a b c = *ℤ_comm a (b +ℤ c) ∙ add-*ℤ b c a ∙ (λ i. *ℤ_comm b a i +ℤ *ℤ_comm c a i)
 
 pub times_plus : (x y z : Ratio) → 0 < x.den → 0 < y.den → 0 < z.den
     → IsEqual (times x (plus y z)) (plus (times x y) (times x z))
-times_plus x y z hx hy hz =
-    let a = x.den in
-    let b = y.den in
-    let c = z.den in
-    let n = (a * b) * (a * c) in
-    let m = a * (b * c) in
-    let xy = x.num *ℤ y.num in
-    let xz = x.num *ℤ z.num in
-    let first : c * n ≡ a * c * m = omega arith in
-    let second : b * n ≡ a * b * m = omega arith in
-    let num : x.num *ℤ (y.num *ℤ pos c +ℤ z.num *ℤ pos b) ≡ xy *ℤ pos c +ℤ xz *ℤ pos b =
-    mul-plus x.num (y.num *ℤ pos c) (z.num *ℤ pos b)
-    ∙ (λ i. sym (*ℤ_assoc x.num y.num (pos c)) i +ℤ sym (*ℤ_assoc x.num z.num (pos b)) i) in
-    record {
-      left = mul_above a (b * c) hx (mul_above b c hy hz);
-      right = mul_above (a * b) (a * c) (mul_above a b hx hy) (mul_above a c hx hz);
-      crosswise = ap (λ k. k *ℤ pos n) num ∙ add-*ℤ (xy *ℤ pos c) (xz *ℤ pos b) (pos n)
-          ∙ (λ i. (over xy c n ∙ at xy _ _ first ∙ sym (over xy (a * c) m)) i
-          +ℤ (over xz b n ∙ at xz _ _ second ∙ sym (over xz (a * b) m)) i)
-          ∙ sym (add-*ℤ (xy *ℤ pos (a * c)) (xz *ℤ pos (a * b)) (pos m));
-    }
+times_plus x y z hx hy hz = grind (arith, mul-plus, *ℤ_assoc, mul_above, add-*ℤ, over)
 
 pub times_zero : (x : Ratio) → 0 < x.den → IsEqual (times x zero_ratio) zero_ratio
 times_zero x hx = grind arith

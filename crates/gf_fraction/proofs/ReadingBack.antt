@@ -24,6 +24,7 @@ use Rattle.gf_fraction.proofs.LowestTerms.{one_fraction}
 use Rattle.gf_fraction.proofs.SpelledIsFound.{held}
 use Rattle.gf_fraction.proofs.AnswersFromScans.{scan_spelled, bounded_kept, bounded_held, zero_held}
 use Rattle.gf_fraction.proofs.AnswersFromScans.{zero_kept}
+use Rattle.gf_fraction.specs
 
 -- two readings of one text agree but for what is too large
 module _ (text : List ℕ) (m n : Bool) (x y : Reading) (hx : SpellsReading text m x)
@@ -64,11 +65,9 @@ not_both text r TooLarge a h = h.unbounded
 
 pub same_fault : (text : List ℕ) (f g : NumberFault) → HasNumberFault text f → HasNumberFault text g
     → f ≡ g
-same_fault text NotANumber NotANumber a b = refl
 same_fault text NotANumber ZeroDenominator a b = absurd (a b.negative b.reading b.spelled)
 same_fault text NotANumber TooLarge a b = absurd (a b.negative b.reading b.spelled)
 same_fault text ZeroDenominator NotANumber a b = absurd (b a.negative a.reading a.spelled)
-same_fault text ZeroDenominator ZeroDenominator a b = refl
 same_fault text ZeroDenominator TooLarge a b =
     let z = zero_too text a.negative b.negative a.reading b.reading a.spelled b.spelled a.zero in
     let above = b.den_above_zero in
@@ -78,7 +77,7 @@ same_fault text TooLarge ZeroDenominator a b =
     let z = zero_too text b.negative a.negative b.reading a.reading b.spelled a.spelled b.zero in
     let above = a.den_above_zero in
     absurd (omega (arith, z, above))
-same_fault text TooLarge TooLarge a b = refl
+same_fault text f g a b = refl
 
 pub one_answer : (text : List ℕ) (a b : Result Ratio NumberFault) → Reads text a → Reads text b
     → a ≡ b

@@ -1,14 +1,14 @@
 -- Short numbers: what is read of a text one part at a time spells a number.
 use Rattle.std.proofs.Common.{Bool, ◌≡◌, ℕ, pos, ◌+◌, ◌-◌, ◌*◌, ◌^◌, ◌<◌, ◌≤◌, true, List, [], ◌∷◌}
 use Rattle.std.proofs.Common.{◌++◌, length, get_or, take, drop, arith, lit<, refl, ap, sym, ◌∙◌}
-use Rattle.std.proofs.Common.{subst, append_assoc, length-append, Option, Some, None}
+use Rattle.std.proofs.Common.{subst, append_assoc, length-append, Option}
 use Rattle.std.specs.Char.{digit_value, is_ascii_digit}
 use Rattle.std.specs.Str.Parse.{AllDigits, IsNumeral, digits_value, digits_value_after}
 use Rattle.std.specs.Prelude.{◌-ℤ◌, MatchOption}
 use Rattle.std.proofs.lemmas.Int.{ints}
 use Rattle.std.proofs.lemmas.List.{append-nil, take_all, take_more}
 use Rattle.std.proofs.Math.Seq.{take-append_seam}
-use Rattle.gf_fraction.specs.Ratio.{Ratio, IsFraction, HasValue, signed}
+use Rattle.gf_fraction.specs.Ratio.{Ratio, IsFraction, signed}
 use Rattle.gf_fraction.specs.inner.Steps.{IsLowest}
 use Rattle.gf_fraction.specs.NumberSpelling.{HasShape, IsNumber, IsSign, size_of, den_of}
 use Rattle.gf_fraction.specs.NumberSpelling.{scaled_digits, power_of_ten, IsPlain}
@@ -25,6 +25,7 @@ use Rattle.gf_fraction.proofs.LowestTerms.{value_from}
 use Rattle.gf_fraction.proofs.PowersOfTen.{power_of_ten-above}
 use Rattle.gf_fraction.proofs.SpelledIsFound.{AllDigits-append, digit_from_ascii}
 use Rattle.gf_fraction.proofs.SpelledIsFound.{digits_value_after-append}
+use Rattle.gf_fraction.specs
 
 -- one more digit
 module _ (text : List ℕ) (i : ℕ) (within : i < length text)
@@ -159,8 +160,7 @@ decimal_left n v places text after rest point h count many =
 -- ---- how far it is read on, whatever room there is
 
 no_digit : (v : ℕ) (rest : List ℕ) → v ≡ 0 → Stops v rest → BeginsNoDigit rest
-no_digit v [] zero h = tt
-no_digit v (c ∷ cs) zero h = grind (arith, digit_from_ascii)
+no_digit v rest none h = grind (arith, digit_from_ascii)
 
 read_on : (n : ℕ) (more rest : List ℕ) → IsReadInWords n more rest → IsReadOn more rest
 read_on n _ _ (IsReadInWords.whole rest ends) = IsReadOn.whole rest ends
@@ -178,8 +178,7 @@ left n _ (many_places after rest run many) =
 pub reads_on : (n : ℕ) (text : List ℕ) (o : Option (Ratio × ℕ))
     → MatchOption o (IsLeftByWords n text) (λ r. IsReadInWords n (take r.1 text) (drop r.1 text))
     → MatchOption o (IsLeft text) (λ r. IsReadOn (take r.1 text) (drop r.1 text))
-reads_on n text None h = left n text h
-reads_on n text (Some r) h = read_on n (take r.1 text) (drop r.1 text) h
+reads_on n text o h = grind (arith, left, read_on)
 
 -- ---- the number
 
@@ -188,30 +187,17 @@ pub completed_number : (sign digits text rest : List ℕ) (negative : Bool) (n p
     → Completes n text p q rest → len ≡ length text - length rest
     → IsFraction r → r ≡ record { num = signed negative p; den = q }
     → IsNumber (sign ++ digits ++ take len text) r
-completed_number sign digits text rest negative n p q len r is_sign numeral value c count
-    is_fraction is =
-    let long : length text ≡ length c.more + length rest =
-    ap length c.spelled ∙ length-append c.more rest in
-    let taken : take len text ≡ c.more =
-    (λ i. take (let e : len ≡ length c.more = omega (arith, long) in e i) (c.spelled i))
-    ∙ take-append_seam c.more rest in
-    record {
-      negative = negative;
-      reading = c.reading;
-      spelled = record {
-        sign = sign;
-        rest = digits ++ c.more;
-        spelled = ap (λ t. sign ++ digits ++ t) taken ∙ append_assoc sign digits c.more;
-        is_sign = is_sign;
-        has_shape = c.has_shape digits numeral value;
-      };
-      den_above_zero = c.den_above_zero;
-      bounded = c.bounded;
-      fraction = is_fraction;
-      value =
-          subst (λ t. HasValue t (signed negative (size_of c.reading)) (den_of c.reading)) (sym is)
-          (value_from negative (size_of c.reading) (den_of c.reading) p q c.lowest);
-    }
+completed_number sign digits text rest negative n p q len r is_sign numeral value c count is_fraction
+    is =
+    grind (
+      arith,
+      length-append c.more rest,
+      take-append_seam c.more rest,
+      append_assoc sign digits c.more,
+      fraction,
+      signed negative (size_of c.reading),
+      value_from negative (size_of c.reading) (den_of c.reading) p q c.lowest,
+    )
 
 -- a sign, digits and what follows them are the whole text
 pub parts_of : (text rest : List ℕ) (n len : ℕ) (d : AreRead 0 (after_sign text) n rest)

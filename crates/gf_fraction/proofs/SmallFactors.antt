@@ -63,8 +63,7 @@ pub factors_of : (n t threes left fives rest : ℕ) → 0 < n → n < 2 ^ 64 →
     → left * 3 ^ threes ≡ n / 2 ^ t → rest * 5 ^ fives ≡ left
     → rest * 5 ^ fives * 3 ^ threes * 2 ^ t ≡ n
 factors_of n t threes left fives rest some fits is by_three by_five =
-    ap (λ x. x * 3 ^ threes * 2 ^ t) by_five
-    ∙ ap (λ x. x * 2 ^ t) by_three ∙ (odd_part n t some fits is).parts
+    grind (arith, odd_part n t some fits is)
 
 pub odd_above : (n t : ℕ) → 0 < n → n < 2 ^ 64 → t ≡ trailing_zeros w64 n → 0 < n / 2 ^ t
 odd_above n t some fits is = let odd = (odd_part n t some fits is).odd in omega (arith, odd)
@@ -72,11 +71,7 @@ odd_above n t some fits is = let odd = (odd_part n t some fits is).odd in omega 
 pub factors_of_ten : (n d p fives : ℕ) → d ≡ 10 ^ p → fives ≡ p
     → HoldsCommon n d (1 * 5 ^ fives * 3 ^ 0 * 2 ^ p)
 factors_of_ten n d p fives is same =
-    let e : 1 * 5 ^ p * 3 ^ 0 * 2 ^ p ≡ 5 ^ p * 2 ^ p = omega arith in
-    subst (λ k. HoldsCommon n k (1 * 5 ^ fives * 3 ^ 0 * 2 ^ p)) (sym is)
-    (subst (λ f. HoldsCommon n (10 ^ p) (1 * 5 ^ f * 3 ^ 0 * 2 ^ p)) (sym same)
-    (subst (HoldsCommon n (10 ^ p)) (sym (e ∙ sym (mul-pow 5 2 p)))
-    (HoldsCommon-self n (10 ^ p) (pow_above_zero p))))
+    grind (arith, mul-pow 5 2 p, HoldsCommon-self n (10 ^ p) (pow_above_zero p))
 
 -- ---- dividing them out
 
@@ -127,8 +122,7 @@ divided_by f n d p q k some whole h =
     }
 
 left_apart : (n d p q k m : ℕ) → IsGcd p m 1 → IsReduced n d p q (k * m) → IsReduced n d p q k
-left_apart n d p q k m apart h =
-    record { by = h.by; num = h.num; den = h.den; held = held_apart p q k m apart h.held }
+left_apart n d p q k m apart h = grind (arith, held_apart p q k m apart h.held)
 
 -- a prime, of which this many may be left in both
 module _ (f n d p q k left : ℕ) (prime : IsPrime f) (h : IsReduced n d p q (k * f ^ left)) where
@@ -176,12 +170,8 @@ divided_twos n d k count twos some fits is h =
 
 -- lowest terms of what is left are lowest terms
 pub lowest_after : (n d p q k a b : ℕ) → IsReduced n d p q k → IsLowest p q a b → IsLowest n d a b
-lowest_after n d p q k a b h low = record {
-  by = low.by * h.by;
-  num = grown a low.by p h.by n low.num h.num;
-  den = grown b low.by q h.by d low.den h.den;
-  apart = low.apart;
-}
+lowest_after n d p q k a b h low =
+    grind (arith, grown a low.by p h.by n low.num h.num, grown b low.by q h.by d low.den h.den)
 
 -- a power of two holds what they have in common
 pub twos_alone : (n d k t p q : ℕ) → 0 < k → k < 2 ^ 64 → t ≡ trailing_zeros w64 k

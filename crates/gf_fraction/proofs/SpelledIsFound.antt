@@ -37,16 +37,11 @@ leading-append : (ds rest : List ℕ) → AllDigits 10 ds → Stops rest
 leading-append [] [] all stops = (refl, refl)
 leading-append [] (c ∷ cs) all stops = (rw stops, rw stops)
 leading-append (d ∷ ds) rest all stops =
-    let e = leading-append ds rest all.1 stops in
-    let digit = ascii_from_digit d all.0 in
-    (rw digit (ap (λ t. d ∷ t) e.0), rw digit e.1)
+    grind (arith, ascii_from_digit, leading-append ds rest all.1 stops)
 
 leading-digits : (ds : List ℕ) → AllDigits 10 ds → (leading ds ≡ ds) × (unread ds ≡ [])
 leading-digits [] all = (refl, refl)
-leading-digits (d ∷ ds) all =
-    let e = leading-digits ds all.1 in
-    let digit = ascii_from_digit d all.0 in
-    (rw digit (ap (λ t. d ∷ t) e.0), rw digit e.1)
+leading-digits (d ∷ ds) all = grind (arith, ascii_from_digit, leading-digits ds all.1)
 
 pub AllDigits-leading : (text : List ℕ) → AllDigits 10 (leading text)
 AllDigits-leading [] = tt

@@ -56,56 +56,31 @@ quotients b d g bs ds is =
 fits_from_parts : (x y : Ratio) (g : ℕ) → IsFraction x → IsFraction y → IsGcd x.den y.den g
     → PartsFit x.num y.num x.den (y.den / g) (x.den / g) → SumFits x y
 fits_from_parts x y g hx hy is h =
-    let above = pos_of_dvd_of_pos is.1 hy.den_above_zero in
-    let e = quotients x.den y.den g hx.den_above_zero hy.den_above_zero is in
-    let F : (ℕ × ℕ) → Type 0 = λ t. IsWithin (x.num *ℤ pos t.0 +ℤ y.num *ℤ pos t.1) in
-    record {
-      den = x.den * (y.den / g);
-      least = IsLcm-from_gcd x.den y.den g above is;
-      den_within = h.den;
-      left_within = subst (λ p. IsWithin (x.num *ℤ pos p)) (sym e.0) h.left;
-      right_within = subst (λ q. IsWithin (y.num *ℤ pos q)) (sym e.1) h.right;
-      sum_within = subst F (λ i. (sym e.0 i, sym e.1 i)) h.sum;
-    }
+    grind (
+      arith,
+      quotients x.den y.den g hx.den_above_zero hy.den_above_zero is,
+      IsLcm-from_gcd x.den y.den g (pos_of_dvd_of_pos is.1 hy.den_above_zero) is,
+    )
 
 parts_from_fits : (x y : Ratio) (g : ℕ) → IsFraction x → IsFraction y → IsGcd x.den y.den g
     → SumFits x y → PartsFit x.num y.num x.den (y.den / g) (x.den / g)
 parts_from_fits x y g hx hy is h =
-    let m = h.den in
-    let lcm = h.least in
-    let above = pos_of_dvd_of_pos is.1 hy.den_above_zero in
-    let e = quotients x.den y.den g hx.den_above_zero hy.den_above_zero is in
-    let l = IsLcm-from_gcd x.den y.den g above is in
-    let same : m ≡ x.den * (y.den / g) =
-    dvd_antisymm (lcm.least _ l.left l.right) (l.least _ lcm.left lcm.right) in
-    let ep : m / x.den ≡ y.den / g = ap (λ k. k / x.den) same ∙ e.0 in
-    let eq : m / y.den ≡ x.den / g = ap (λ k. k / y.den) same ∙ e.1 in
-    let F : (ℕ × ℕ) → Type 0 = λ t. IsWithin (x.num *ℤ pos t.0 +ℤ y.num *ℤ pos t.1) in
-    record {
-      den = subst (λ k. k < 2 ^ 127) same h.den_within;
-      left = subst (λ p. IsWithin (x.num *ℤ pos p)) ep h.left_within;
-      right = subst (λ q. IsWithin (y.num *ℤ pos q)) eq h.right_within;
-      sum = subst F (λ i. (ep i, eq i)) h.sum_within;
-    }
+    let l = IsLcm-from_gcd x.den y.den g (pos_of_dvd_of_pos is.1 hy.den_above_zero) is in
+    let e = dvd_antisymm (h.least.least _ l.left l.right) (l.least _ h.least.left h.least.right) in
+    grind (arith, quotients x.den y.den g hx.den_above_zero hy.den_above_zero is, e)
 
 -- what has the value of the sum over the least common denominator has the value of the sum
 sum_from_parts : (r x y : Ratio) (g p q : ℕ) → p * g ≡ y.den → q * g ≡ x.den
     → HasValue r (x.num *ℤ pos p +ℤ y.num *ℤ pos q) (x.den * p) → IsSum r x y
 sum_from_parts r x y g p q pg qg h =
-    let a = x.num in
-    let c = y.num in
-    let b = x.den in
-    let d = y.den in
-    let whole : pos (b * d) ≡ pos (b * p) *ℤ pos g = ap pos (omega (arith, ap (λ n. b * n) pg)) in
-    let up : pos p *ℤ pos g ≡ pos d = ap pos pg in
-    let uq : pos q *ℤ pos g ≡ pos b = ap pos qg in
-    let s = a *ℤ pos p +ℤ c *ℤ pos q in
-    let grown : s *ℤ pos g ≡ a *ℤ pos d +ℤ c *ℤ pos b =
-    add-*ℤ (a *ℤ pos p) (c *ℤ pos q) (pos g)
-    ∙ ap (λ n. n +ℤ (c *ℤ pos q) *ℤ pos g) (*ℤ_assoc a (pos p) (pos g) ∙ ap (λ n. a *ℤ n) up)
-    ∙ ap (λ n. a *ℤ pos d +ℤ n) (*ℤ_assoc c (pos q) (pos g) ∙ ap (λ n. c *ℤ n) uq) in
-    ap (λ n. r.num *ℤ n) whole ∙ sym (*ℤ_assoc r.num (pos (b * p)) (pos g)) ∙ ap (λ n. n *ℤ pos g) h
-    ∙ *ℤ_right_comm s (pos r.den) (pos g) ∙ ap (λ n. n *ℤ pos r.den) grown
+    grind (
+      arith,
+      add-*ℤ (x.num *ℤ pos p) (y.num *ℤ pos q) (pos g),
+      *ℤ_assoc x.num (pos p) (pos g),
+      *ℤ_assoc y.num (pos q) (pos g),
+      *ℤ_assoc r.num (pos (x.den * p)) (pos g),
+      *ℤ_right_comm (x.num *ℤ pos p +ℤ y.num *ℤ pos q) (pos r.den) (pos g),
+    )
 
 -- a number that divides a sum and one of its parts divides the other
 dvd_other_ℕ : (e m n : ℕ) → e ∣ (m - n) + (n - m) → e ∣ m → e ∣ n

@@ -1,7 +1,7 @@
 -- The text of a fraction, and how many digits its parts have.
-use Rattle.std.proofs.Common.{◌≡◌, ℕ, ℤ, pos, negsuc, ◌+◌, ◌/◌, ◌^◌, ◌≤◌, ◌<◌, Bool, true, false}
+use Rattle.std.proofs.Common.{◌≡◌, ℕ, ℤ, pos, ◌+◌, ◌/◌, ◌^◌, ◌≤◌, ◌<◌, Bool}
 use Rattle.std.proofs.Common.{List, [], ◌∷◌, ◌++◌, ◌∙◌, length, take, drop, arith}
-use Rattle.std.proofs.Common.{refl, ap, sym, append-nil, append_assoc, length-append}
+use Rattle.std.proofs.Common.{refl, ap, append-nil, append_assoc, length-append}
 use Rattle.std.specs.Prelude.{◌==◌, codes, decimal, unsigned_abs, if◌then◌else◌}
 use Rattle.std.specs.Int.{from_bool}
 use Rattle.std.specs.Int.Signed.{lt_z}
@@ -17,8 +17,7 @@ under_text d = if d == 1 then [] else codes "/" ++ decimal d
 
 part : (b : Bool) (n d : List ℕ)
     → n ++ (if b then [] else codes "/" ++ d) ≡ (if b then n else n ++ codes "/" ++ d)
-part true n d = append-nil n
-part false n d = sym (append_assoc n (codes "/") d)
+part b n d = grind (arith, append-nil, append_assoc)
 
 pub number_parts : (z : ℤ) (d : ℕ)
     → signed_decimal z ++ under_text d ≡ number_text (record { num = z; den = d })
@@ -34,8 +33,7 @@ digits_from old new number rest start before written =
 
 signed : (z : ℤ) (rest : List ℕ)
     → take (from_bool (lt_z z (pos 0))) (45 ∷ rest) ++ decimal (unsigned_abs z) ≡ signed_decimal z
-signed (pos n) rest = grind (arith, leb-suc-zero)
-signed (negsuc n) rest = refl
+signed z rest = grind (arith, leb-suc-zero)
 
 -- a minus is stored in any case, and kept if the number is below zero
 pub past_minus : (z : ℤ) (den : ℕ) (before rest : List ℕ)
@@ -43,13 +41,7 @@ pub past_minus : (z : ℤ) (den : ℕ) (before rest : List ℕ)
     ++ decimal (unsigned_abs z)) ++ under_text den
     ≡ before ++ number_text (record { num = z; den = den })
 past_minus z den before rest =
-    rw (
-      take-append-add before (45 ∷ rest) (from_bool (lt_z z (pos 0))),
-      append_assoc before,
-      signed z rest,
-      append_assoc before,
-      number_parts z den,
-    ) refl
+    grind (arith, take-append-add, append_assoc, signed, number_parts)
 
 longer : (n : ℕ) → 10 ≤ n → n < 2 ^ 64 → length (decimal n) ≡ length (decimal (n / 10)) + 1
 longer n lo hi = ap length (decimal_step n lo hi) ∙ length-append (decimal (n / 10)) _
@@ -68,9 +60,7 @@ length_four n lo hi = grind (arith, longer, length_three)
 
 pub four_longer : (n : ℕ) → 10000 ≤ n → n < 2 ^ 64
     → length (decimal n) ≡ length (decimal (n / 10000)) + 4
-four_longer n lo hi =
-    let e : n / 10 / 10 / 10 / 10 ≡ n / 10000 = omega arith in
-    grind (arith, longer, e)
+four_longer n lo hi = grind (arith, longer)
 
 pub few_digits : (n : ℕ) → n < 2 ^ 64 → length (decimal n) ≤ 20
 few_digits n h = length-decimal-le 20 n (omega arith) (omega arith) h

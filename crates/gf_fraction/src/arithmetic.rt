@@ -119,8 +119,8 @@ pub fn gcd(a: u128, b: u128) -> u128
     u128::from(word_gcd(x as u64, y as u64))
 }
 
-/// The quotient, by a division of 64 bits if both numbers fit, and without a division if the
-/// divisor is a power of two.
+/// The quotient: by a division of 64 bits if both numbers fit, otherwise by a shift if the divisor
+/// is a power of two.
 pub fn quotient(n: u128, by: u128) -> u128
     requires { 0 < by }
     ensures { result ≡ n / by }

@@ -161,6 +161,7 @@ pub fn lowest_words(size: u64, den: u64, common: u64) -> (u64, u64)
 
 /// A numerator's size and a denominator in lowest terms. Common factors are looked for only in
 /// `common`.
+// Inlined here, it would keep `SharedDenominator::lowest` from being inlined.
 #[inline(never)]
 pub fn lowest(size: u128, den: u128, common: u128) -> (u128, u128)
     requires { HoldsCommon size den common }

@@ -19,8 +19,7 @@ pub returns-then-y-eq0 : goal.returns-then-y-eq0
 returns-then-y-eq0 c = c.loop-x.invariant _ (IsGcd-from_zero _ _ (omega arith))
 
 pub loop-x-preserved : goal.loop-x-preserved
-loop-x-preserved c g h =
-    c.loop-x.invariant g (IsGcd-from_mod _ _ g h)
+loop-x-preserved c g h = grind (arith, IsGcd-from_mod)
 
 pub returns : goal.returns
 returns c = subst (λ g. IsGcd c.args.a c.args.b g) (sym c.from.ensures)

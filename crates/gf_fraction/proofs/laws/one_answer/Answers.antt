@@ -1,5 +1,4 @@
 use Rattle.gf_fraction.proofs.ReadingBack.{one_answer}
-use Rattle.gf_fraction.proofs.laws.one_answer.Goals as goal
 
-pub returns : goal.returns
+pub returns : Rattle.gf_fraction.proofs.laws.one_answer.Goals.returns
 returns c = one_answer

@@ -1,5 +1,4 @@
 use Rattle.gf_fraction.proofs.LowestTerms.{one_fraction}
-use Rattle.gf_fraction.proofs.laws.one_fraction.Goals as goal
 
-pub returns : goal.returns
+pub returns : Rattle.gf_fraction.proofs.laws.one_fraction.Goals.returns
 returns c = one_fraction

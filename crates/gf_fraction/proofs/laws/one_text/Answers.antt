@@ -1,5 +1,4 @@
 use Rattle.gf_fraction.proofs.ReadingBack.{one_text}
-use Rattle.gf_fraction.proofs.laws.one_text.Goals as goal
 
-pub returns : goal.returns
+pub returns : Rattle.gf_fraction.proofs.laws.one_text.Goals.returns
 returns c = one_text

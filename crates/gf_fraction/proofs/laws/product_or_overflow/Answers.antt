@@ -1,5 +1,4 @@
 use Rattle.gf_fraction.proofs.ComputedArithmetic.{product_or_overflow}
-use Rattle.gf_fraction.proofs.laws.product_or_overflow.Goals as goal
 
-pub returns : goal.returns
+pub returns : Rattle.gf_fraction.proofs.laws.product_or_overflow.Goals.returns
 returns c = product_or_overflow

@@ -1,5 +1,4 @@
 use Rattle.gf_fraction.proofs.ComputedAnswers.{some_answer}
-use Rattle.gf_fraction.proofs.laws.some_answer.Goals as goal
 
-pub returns : goal.returns
+pub returns : Rattle.gf_fraction.proofs.laws.some_answer.Goals.returns
 returns c = some_answer

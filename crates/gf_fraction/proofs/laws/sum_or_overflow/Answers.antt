@@ -1,5 +1,4 @@
 use Rattle.gf_fraction.proofs.ComputedArithmetic.{sum_or_overflow}
-use Rattle.gf_fraction.proofs.laws.sum_or_overflow.Goals as goal
 
-pub returns : goal.returns
+pub returns : Rattle.gf_fraction.proofs.laws.sum_or_overflow.Goals.returns
 returns c = sum_or_overflow

@@ -1,5 +1,4 @@
 use Rattle.gf_fraction.proofs.ReadingBack.{written_is_read}
-use Rattle.gf_fraction.proofs.laws.written_is_read.Goals as goal
 
-pub returns : goal.returns
+pub returns : Rattle.gf_fraction.proofs.laws.written_is_read.Goals.returns
 returns c = written_is_read

@@ -1,4 +1,4 @@
-use Rattle.std.proofs.Common.{arith, refl}
+use Rattle.std.proofs.Common.{arith}
 use Rattle.gf_fraction.proofs.Divisors.{IsLowest-same, IsLowest-zero}
 use Rattle.gf_fraction.proofs.SmallFactors.{twos_alone}
 use Rattle.gf_fraction.proofs.lowest.lowest_words.Goals as goal
@@ -10,6 +10,4 @@ pub returns-then-size-eq0 : goal.returns-then-size-eq0
 returns-then-size-eq0 c = IsLowest-zero c.args.size c.args.den c.if-size-eq0.true
 
 pub returns-then-common-twos-eq1 : goal.returns-then-common-twos-eq1
-returns-then-common-twos-eq1 c =
-    twos_alone c.args.size c.args.den c.args.common _ _ _ c.requires.above_zero (omega arith) refl
-    (omega arith) c.requires c.without_twos.ensures
+returns-then-common-twos-eq1 c = grind (arith, twos_alone)

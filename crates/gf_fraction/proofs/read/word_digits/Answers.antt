@@ -2,7 +2,6 @@ use Rattle.std.proofs.Common.{arith}
 use Rattle.gf_fraction.proofs.LeadingDigits.{digit_value-ascii}
 use Rattle.gf_fraction.proofs.SpelledIsFound.{digit_from_ascii}
 use Rattle.gf_fraction.proofs.ShortNumbers.{digits_more, value_more}
-use Rattle.gf_fraction.proofs.read.word_digits.Goals as goal
 
-pub loop-len-preserved : goal.loop-len-preserved
+pub loop-len-preserved : Rattle.gf_fraction.proofs.read.word_digits.Goals.loop-len-preserved
 loop-len-preserved c = grind (arith, value_more, digit_value-ascii, digit_from_ascii, digits_more)

@@ -1,9 +1,8 @@
 use Rattle.std.proofs.Common.{◌≡◌, ◌∙◌, sym, to_z-of_z, length}
 use Rattle.std.proofs.Math.Seq.{take-append_seam}
 use Rattle.gf_fraction.proofs.WrittenText.{past_minus}
-use Rattle.gf_fraction.proofs.write.write_words.Goals as goal
 
-pub returns-clause-ok : goal.returns-clause-ok
+pub returns-clause-ok : Rattle.gf_fraction.proofs.write.write_words.Goals.returns-clause-ok
 returns-clause-ok c =
     let w = c.write_parts-end in
     let long : c.extend_from_slice.new.self.len ≡ length w.new.text =

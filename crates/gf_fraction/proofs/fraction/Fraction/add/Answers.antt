@@ -74,17 +74,7 @@ reduced-requires-2-clause-common c =
     (num_back (goal.at.reduced-requires-2-clause-common c).In_ok-num-2 ∙ is.1) is.2
 
 pub returns : goal.returns
-returns c =
-    let h = adding (goal.at.returns c).After-quotient-by_right in
-    let is = c.in_ok-num-2.ensures in
-    let back = num_back (goal.at.returns c).In_ok-num-2 in
-    record {
-      sum = (
-        c.reduced-2.ensures.fraction,
-        sum_value _ _ _ _ _ _ _ _ _ h _ _ _ (back ∙ is.1) is.2 c.reduced-2.ensures.value,
-      );
-      overflow = sum_fits _ _ _ _ _ _ _ _ _ h is.0;
-    }
+returns c = grind (arith, adding, num_back, sum_value, sum_fits)
 
 pub returns-in_err-num-2-clause-overflow : goal.returns-in_err-num-2-clause-overflow
 returns-in_err-num-2-clause-overflow c =
