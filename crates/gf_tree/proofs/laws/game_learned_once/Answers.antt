@@ -1,5 +1,4 @@
 use Rattle.gf_tree.proofs.lemmas.games.Learned.{game_learned_once}
-use Rattle.gf_tree.proofs.laws.game_learned_once.Goals as goal
 
-pub returns : goal.returns
+pub returns : Rattle.gf_tree.proofs.laws.game_learned_once.Goals.returns
 returns c = game_learned_once

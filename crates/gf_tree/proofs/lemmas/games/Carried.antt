@@ -64,8 +64,7 @@ at_images_itself (e ∷ es) = λ i. e ∷ at_images_itself es i
 
 pub at_images_twice : {K D : Type 0} (f g : K → K) (es : List (Described K D))
     → at_images g (at_images f es) ≡ at_images (λ k. g (f k)) es
-at_images_twice f g es = map_twice (λ e. record { key = g e.key; description = e.description })
-    (λ e. record { key = f e.key; description = e.description }) es
+at_images_twice f g es = grind (arith, map_twice)
 
 pub at_images_same : {K D : Type 0} (f g : K → K) (es : List (Described K D))
     → ((k : K) → Has (keys es) k → f k ≡ g k) → at_images f es ≡ at_images g es

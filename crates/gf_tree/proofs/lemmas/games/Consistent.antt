@@ -129,8 +129,7 @@ children_of : (f : FileTree) (g : Game) → IsGameOf f g
     })
 children_of f g of name None outcome n among h = h
 children_of f g of name (Some u) outcome n among h =
-    let d = set_found f g of u (among u refl) in
-    ap (option_map (λ set. length set.actions)) d.1 ∙ ap (λ (m : ℕ). Some m) (h d.0 d.2)
+    grind (arith, set_found f g of u (among u refl))
 
 -- an entry's set is among the uses
 pub use_among : (es : List (Listed FileNode)) (e : Listed FileNode) (u : Use SetKey InformationSet)

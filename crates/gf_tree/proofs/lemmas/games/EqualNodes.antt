@@ -1,6 +1,6 @@
 -- What `==` says of headings and of nodes: whether they stand for the same.
 use Rattle.gf_tree.proofs.Common.{◌≡◌, Bool, None, Some, [], ◌∷◌, map, option_map}
-use Rattle.gf_tree.proofs.Common.{Decides-eqb, Ratio, action_of, arith, label_of, nat_eq, pointwise}
+use Rattle.gf_tree.proofs.Common.{Decides-eqb, action_of, arith, label_of, nat_eq, pointwise}
 use Rattle.gf_tree.proofs.Common.{refl}
 use Rattle.std.proofs.lemmas.Iterator.Adapters.{option_map_id}
 use Rattle.std.proofs.lemmas.Slice.Eq.{slice_eq-Decides}
@@ -41,23 +41,13 @@ labels : Compares (λ (a b : Label). pointwise nat_eq a.raw.now b.raw.now) label
 labels a b = slice_eq-Decides Decides-eqb _ _ _ refl
 
 actions : Compares action_eq.it action_of
-actions a b = grind (
-  arith,
-  labels a.label b.label,
-  options _ (λ (p : Ratio). p) Decides-ratio a.probability b.probability,
-  option_map_id a.probability,
-  option_map_id b.probability,
-)
+actions a b = grind (arith, labels, options, Decides-ratio, option_map_id)
 
 sets : Compares set_eq.it described_set
 sets a b = grind (arith, labels a.name b.name, lists _ _ actions a.actions.now b.actions.now)
 
 outcomes : Compares outcome_eq.it described_outcome
-outcomes a b = grind (
-  arith,
-  labels a.name b.name,
-  slice_eq-Decides Decides-ratio a.payoffs.now b.payoffs.now _ refl,
-)
+outcomes a b = grind (arith, labels, slice_eq-Decides, Decides-ratio)
 
 set_uses : Compares set_use_eq.it set_use_of
 set_uses a b = grind (arith, options _ _ sets a.description b.description)
@@ -74,9 +64,4 @@ equal_nodes a b = grind (
 )
 
 pub equal_headings : Compares heading_eq.it heading_of
-equal_headings a b = grind (
-  arith,
-  labels a.title b.title,
-  labels a.comment b.comment,
-  lists _ _ labels a.players.now b.players.now,
-)
+equal_headings a b = grind (arith, labels, lists)

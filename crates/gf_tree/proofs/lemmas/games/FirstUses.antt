@@ -58,18 +58,13 @@ filter_distinct test (k ∷ ks) h = grind (arith, of_filter, filter_distinct tes
 
 not_itself : {K : Type 0} (same : K → K → Bool)
     → IsEquality same → (key : K) → not (same key key) ≡ true → ⊥
-not_itself same equality key e =
-    let yes = (equality key key).1 refl in let no = sym (ap not yes) ∙ e in absurd cc
+not_itself same equality key e = grind arith
 
 pub first_uses_distinct : {K : Type 0} (same : K → K → Bool) → IsEquality same → (ks : List K)
     → AreDistinct (first_uses same ks)
 first_uses_distinct same equality [] = tt
-first_uses_distinct same equality (key ∷ ks) = (
-  λ m.
-      not_itself same equality key (of_filter (λ j. not (same key j)) (first_uses same ks) key m).1,
-  filter_distinct (λ j. not (same key j)) (first_uses same ks)
-      (first_uses_distinct same equality ks),
-)
+first_uses_distinct same equality (key ∷ ks) =
+    grind (arith, not_itself, of_filter, filter_distinct, first_uses_distinct same equality ks)
 
 -- ---- descriptions
 
@@ -102,14 +97,9 @@ found_by same equality x xs key true e h later =
       is_at = rw e refl;
       among = inl (λ i. record { key = q i; description = x.description });
     }
-found_by {K} {D} same equality x xs key false e h later =
-    let m : Has (map (λ s. s.key) xs) key =
-    elim h [ inl q ↦ absurd (differ same equality x.key key e q) | inr m ↦ m ] in
-    let f = later m in
-    record { description = f.description; is_at = rw e f.is_at; among = inr f.among }
+found_by {K} {D} same equality x xs key false e h later = grind (arith, differ)
 
 pub found : {K D : Type 0} (same : K → K → Bool) → IsEquality same
     → (xs : List (Described K D)) (key : K) → Has (map (λ s. s.key) xs) key → Found same xs key
 found same equality [] key h = absurd h
-found same equality (x ∷ xs) key h =
-    found_by same equality x xs key (same x.key key) refl h (found same equality xs key)
+found same equality (x ∷ xs) key h = grind (arith, found_by, found same equality xs key)

@@ -14,6 +14,7 @@ use Rattle.gf_tree.proofs.lemmas.runs.Learned.{IsKnown, IsNew, found_has}
 use Rattle.gf_tree.proofs.lemmas.runs.Learned.{learns_on, learns_split, one, one_use}
 use Rattle.gf_tree.proofs.lemmas.stores.KnownKeys.{known_more, used_before}
 use Rattle.std.specs.List.{list_any}
+use Rattle.gf_tree.proofs
 
 -- ---- one more at the end
 
@@ -30,11 +31,7 @@ at_place [] x (z ∷ []) y after e = absurd cc
 at_place [] x (z ∷ w ∷ before) y after e = absurd cc
 at_place (w ∷ xs) x [] y after e = let same : w ≡ y = cc in inr (xs, ap (λ z. z ∷ xs) same)
 at_place (w ∷ xs) x (z ∷ before) y after e =
-    let same : w ≡ z = cc in
-    elim (at_place xs x before y after cc) [
-      | inl h ↦ inl (λ i. sym same i ∷ h.0 i, h.1)
-      | inr h ↦ inr (h.0, λ i. same i ∷ h.1 i)
-    ]
+    grind (arith, at_place xs x before y after cc)
 
 module _ {K : Type 0} (same : K → K → Bool) (equality : IsEquality same) where
   new_firsts : (ks : List K) (k : K) → ¬ (Has ks k)

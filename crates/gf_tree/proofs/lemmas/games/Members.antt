@@ -18,11 +18,9 @@ map_twice f g (x ∷ xs) = ap (λ ys. f (g x) ∷ ys) (map_twice f g xs)
 pub beside : {X Y Z : Type 0} (f : X → Z) (g : Y → Z)
     (xs : List X) (ys : List Y) (at : ℕ) (d : X) (e : Y) → map f xs ≡ map g ys → at < length xs
     → f (get_or xs at d) ≡ g (get_or ys at e)
-beside f g [] ys at d e h i = absurd (omega (arith, i))
-beside f g (x ∷ xs) [] at d e h i = absurd cc
-beside f g (x ∷ xs) (y ∷ ys) zero d e h i = cc
 beside f g (x ∷ xs) (y ∷ ys) (suc at) d e h i =
     let same : map f xs ≡ map g ys = cc in beside f g xs ys at d e same (omega (arith, i))
+beside f g xs ys at d e h i = grind arith
 
 -- what is in one of two lists is in both together
 pub in_left : {X : Type 0} (xs ys : List X) (x : X) → Has xs x → Has (xs ++ ys) x

@@ -49,10 +49,7 @@ single (more t none) e = (t, refl)
 single ts e = grind arith
 
 pub one_tree : {N : Type 0} (es : List (Listed N)) → Fills 1 es → (t : Tree N) × (flatten t ≡ es)
-one_tree es h =
-    let r = grown 1 es h in
-    let s = single (grow es) r.0 in
-    (s.0, sym (append-nil (flatten s.0)) ∙ ap flatten_all (sym s.1) ∙ r.1)
+one_tree es h = grind (arith, append-nil (flatten (single (grow es) (grown 1 es h).0).0))
 
 -- ---- the entries of a tree fill one place
 

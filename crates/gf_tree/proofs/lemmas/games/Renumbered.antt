@@ -3,8 +3,8 @@ use Rattle.gf_tree.proofs.Common
 use Common.{first_use_numbers, renumbered_node, AllByRecursion, InformationSet, renumbered_set, ◌≡◌}
 use Common.{used_outcomes, IsRenumbering, Decides-eqb, HasChildren, Renumbering, MatchOption, subst}
 use Common.{renumbered, first_uses, option_map, outcome_at, IsOutcome, used_sets, Described, length}
-use Common.{same_set, flatten, Outcome, sets_of, Option, eq-eqb, Listed, SetKey, set_of, IsGame, ap}
-use Common.{set_at, HasSet, nat_eq, arith, IsSet, Some, refl, Node, Game, map, sym, ◌∙◌, ℕ}
+use Common.{same_set, flatten, Outcome, sets_of, Option, Listed, SetKey, set_of, IsGame, ap}
+use Common.{set_at, HasSet, nat_eq, arith, IsSet, Some, Node, Game, map, sym, ◌∙◌, ℕ}
 use Rattle.gf_tree.proofs.lemmas.games.FirstUseNumbers.{numbers_apart}
 use Rattle.gf_tree.proofs.lemmas.games.Lookups.{at_images}
 use Rattle.gf_tree.proofs.lemmas.games.MappedTrees.{held}
@@ -15,6 +15,7 @@ use Rattle.gf_tree.proofs.lemmas.games.Renumberings.{outcomes_apart}
 use Rattle.gf_tree.proofs.lemmas.games.TreesOnce.{same_set_equality}
 use Rattle.gf_tree.proofs.lemmas.games.Consistent.{map_entry, flatten_map}
 use Rattle.gf_tree.proofs.lemmas.games.Uses.{Has, has, contains, mapped_from, each, all_of_each}
+use Rattle.gf_tree.proofs
 
 -- ---- a game by new numbers
 
@@ -106,8 +107,7 @@ renumbered_is_game g r game h = record {
 
 pub own_set : (g : Game) (key : SetKey) → Has (used_sets g.tree) key
     → Has (sets_of key.player (used_sets g.tree)) key
-own_set g key i = in_filter (λ (k : SetKey). nat_eq k.player key.player) (used_sets g.tree) key i
-    (eq-eqb key.player key.player refl)
+own_set g key i = grind (arith, in_filter)
 
 pub first_use_is_renumbering : (g : Game) → IsRenumbering g (first_use_numbers g)
 first_use_is_renumbering g = record {

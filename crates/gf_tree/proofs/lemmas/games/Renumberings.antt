@@ -13,6 +13,7 @@ use Rattle.gf_tree.proofs.lemmas.games.MappedTrees.{map_tree_same, map_tree_twic
 use Rattle.gf_tree.proofs.lemmas.games.MappedTrees.{held, held_map}
 use Rattle.gf_tree.proofs.lemmas.games.TreesOnce.{same_set_equality}
 use Rattle.gf_tree.proofs.lemmas.games.Uses.{Has, has, contains, mapped_from, each}
+use Rattle.gf_tree.proofs
 
 -- ---- uses
 
@@ -128,8 +129,7 @@ sets_apart g r h a b i j e = grind (arith, contains)
 
 pub outcomes_apart : (g : Game) (r : Renumbering) → IsRenumbering g r
     → AreApart r.outcome (used_outcomes g.tree)
-outcomes_apart g r h a b i j e = h.outcomes_apart a b (contains (used_outcomes g.tree) a i)
-    (contains (used_outcomes g.tree) b j) e
+outcomes_apart g r h a b i j e = grind (arith, contains)
 
 pub is_renumbering : (g : Game) (r : Renumbering)
     → ((key : SetKey) → Has (used_sets g.tree) key → 0 < r.set key.player key.number)

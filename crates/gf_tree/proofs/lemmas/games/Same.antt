@@ -11,6 +11,7 @@ use Rattle.gf_tree.proofs.lemmas.games.Renumberings.{identity, itself, composed,
 use Rattle.gf_tree.proofs.lemmas.games.Renumberings.{sets_apart, outcomes_apart, is_renumbering}
 use Rattle.gf_tree.proofs.lemmas.games.Renumberings.{set_number_positive, outcome_number_positive}
 use Rattle.gf_tree.proofs.lemmas.games.Uses.{Has, has, contains, has_map, mapped_from}
+use Rattle.gf_tree.proofs
 
 -- ---- what a carried game uses
 
@@ -20,8 +21,7 @@ carried_sets r g h c = ap (λ (k : Game). used_sets k.tree) (sym c.image) ∙ us
 
 pub carried_outcomes : (r : Renumbering) (g h : Game) → Carries r g h
     → used_outcomes h.tree ≡ map r.outcome (used_outcomes g.tree)
-carried_outcomes r g h c =
-    ap (λ (k : Game). used_outcomes k.tree) (sym c.image) ∙ used_outcomes_of r g.tree
+carried_outcomes r g h c = grind (arith, used_outcomes_of)
 
 -- ---- identity
 
@@ -170,6 +170,5 @@ only_sets r s g h c d player number i =
 pub only_outcomes : (r s : Renumbering) (g h : Game) → Carries r g h → Carries s g h → (number : ℕ)
     → HasOutcome g number → r.outcome number ≡ s.outcome number
 only_outcomes r s g h c d number i =
-    images_told r.outcome s.outcome (used_outcomes g.tree)
-    (sym (carried_outcomes r g h c) ∙ carried_outcomes s g h d) number
-    (has (used_outcomes g.tree) number i)
+    cc (images_told r.outcome s.outcome (used_outcomes g.tree) (sym (carried_outcomes r g h c) ∙
+    carried_outcomes s g h d) number (has (used_outcomes g.tree) number i))

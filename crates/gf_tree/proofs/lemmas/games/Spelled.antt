@@ -46,15 +46,11 @@ set_spelled : (key : SetKey) (o : Option InformationSet) (tokens : List Token) �
     → SetSpelled (record { key = key; description = o })
 set_spelled key None tokens p n h all = tt
 set_spelled key (Some d) tokens p n h all =
-    let k = subst AllSpelled h.1 all in
-    let actions = all_parts IsSpelled h.0 (Closing ∷ []) k.1.1 in
-    record {
-      player = p;
-      number = n;
-      name = k.0;
-      actions = each_spelled (IsAction key.player) IsSpellableAction
-          (action_spelled key.player) d.actions h.0 h.2 actions.0;
-    }
+    grind (
+      arith,
+      each_spelled (IsAction key.player) IsSpellableAction (action_spelled key.player)
+          d.actions h.0 h.2 (all_parts IsSpelled h.0 (Closing ∷ []) (subst AllSpelled h.1 all).1.1).0,
+    )
 
 step_spelled : (letter : List ℕ) (tokens : List Token) (o : Option (Use SetKey InformationSet))
     → IsStep letter tokens o → AllSpelled tokens → MatchOption o (Unit {0}) SetSpelled
@@ -106,8 +102,7 @@ all_of_options P o xs h k = grind arith
 sets_spelled : (es : List (Listed FileNode)) → AllByRecursion NodeSpelled (map (λ e. e.node) es)
     → AllByRecursion SetSpelled (set_uses es)
 sets_spelled [] h = tt
-sets_spelled (e ∷ es) h =
-    all_of_options SetSpelled e.node.set (set_uses es) h.0.set (sets_spelled es h.1)
+sets_spelled (e ∷ es) h = grind (arith, all_of_options, set_uses, sets_spelled es h.1)
 
 outcomes_spelled : (es : List (Listed FileNode)) → AllByRecursion NodeSpelled (map (λ e. e.node) es)
     → AllByRecursion OutcomeSpelled (outcome_uses es)

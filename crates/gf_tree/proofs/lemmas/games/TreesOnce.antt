@@ -10,6 +10,7 @@ use Rattle.gf_tree.proofs.lemmas.games.Prefix.{flatten_once}
 use Rattle.gf_tree.proofs.lemmas.games.Uses.{described_once, Has, has_first, has_later, IsEquality}
 use Rattle.gf_tree.proofs.lemmas.games.Uses.{described}
 use Rattle.gf_tree.proofs.lemmas.games.SentencesOnce.{says_once}
+use Rattle.gf_tree.proofs
 
 pub same_set_equality : IsEquality same_set
 same_set_equality a b =
@@ -38,8 +39,6 @@ entries_once : (uses : List (Use SetKey InformationSet))
     → map (λ e. e.node) es ≡ map (λ e. e.node) fs → AllByRecursion (HasChildrenAsDescribed uses) es
     → AllByRecursion (HasChildrenAsDescribed uses) fs → es ≡ fs
 entries_once uses consistent [] [] among e h k = refl
-entries_once uses consistent [] (y ∷ ys) among e h k = absurd cc
-entries_once uses consistent (x ∷ xs) [] among e h k = absurd cc
 entries_once uses consistent (x ∷ xs) (y ∷ ys) among e h k =
     let node : x.node ≡ y.node = cc in
     let here : (u : Use SetKey InformationSet) → x.node.set ≡ Some u → Has uses u =
@@ -51,6 +50,7 @@ entries_once uses consistent (x ∷ xs) (y ∷ ys) among e h k =
     let rest = entries_once uses consistent xs ys
     (λ u m. among u (has_later x.node.set (set_uses xs) u m)) (ap (drop 1) e) h.1 k.1 in
     λ i. record { node = node i; children = children i } ∷ rest i
+entries_once uses consistent es fs among e h k = absurd cc
 
 -- the uses are those of the nodes
 pub uses_of_nodes : {U : Type 0} (use_in : FileNode → Option U) (es : List (Listed FileNode))

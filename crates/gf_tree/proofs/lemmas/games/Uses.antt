@@ -134,11 +134,10 @@ pub described_once : {K D : Type 0} (uses : List (Use K D)) → AreConsistent us
     → AllByRecursion (λ s. Describes uses s.key s.description) xs
     → AllByRecursion (λ s. Describes uses s.key s.description) ys → xs ≡ ys
 described_once uses consistent [] [] e h k = refl
-described_once uses consistent [] (y ∷ ys) e h k = absurd cc
-described_once uses consistent (x ∷ xs) [] e h k = absurd cc
 described_once uses consistent (x ∷ xs) (y ∷ ys) e h k =
     let key : x.key ≡ y.key = cc in
     let description = consistent.described_alike y.key x.description y.description
     (subst (λ q. Describes uses q x.description) key h.0) k.0 in
     let rest = described_once uses consistent xs ys (ap (drop 1) e) h.1 k.1 in
     λ i. record { key = key i; description = description i } ∷ rest i
+described_once uses consistent xs ys e h k = absurd cc

@@ -1,5 +1,5 @@
 -- What is known at a place is what the nodes before it describe.
-use Rattle.gf_tree.proofs.Common.{append_assoc, cons_option, IsNode}
+use Rattle.gf_tree.proofs.Common.{append_assoc, IsNode}
 use Rattle.gf_tree.proofs.Common.{filter_map, Described, FileNode, Position, index_is, same_set, []}
 use Rattle.gf_tree.proofs.Common.{Content, flatten, Learns, Listed, Option, braced, length}
 use Rattle.gf_tree.proofs.Common.{nat_eq, Token, arith, codes, subst, Bare, Bool, Each, List, None}
@@ -17,6 +17,7 @@ use Rattle.gf_tree.proofs.lemmas.runs.Ends.{nodes_end, terminals}
 use Rattle.gf_tree.proofs.lemmas.runs.Games.{file_found}
 use Rattle.gf_tree.specs.inner.Machine.{at_end, next}
 use Rattle.gf_tree.proofs.Common.{Format, at, nothing}
+use Rattle.gf_tree.proofs
 
 -- ---- terminal nodes without an outcome
 
@@ -46,8 +47,7 @@ use_nothing : {U : Type 0} (use_in : FileNode → Option U) (said : List FileNod
     → filter_map use_in (said ++ blanks n) ≡ filter_map use_in said
 use_nothing use_in [] zero e = refl
 use_nothing use_in [] (suc n) e = grind (arith, use_nothing use_in [] n e)
-use_nothing {U} use_in (m ∷ said) n e =
-    ap (cons_option (use_in m)) (use_nothing use_in said n e)
+use_nothing {U} use_in (m ∷ said) n e = grind (arith, use_nothing use_in said n e)
 
 each_more : {A : Type 0} (P : List Token → A → Type 0) (xs ys : List A) (ts us : List Token)
     → Each P ts xs → Each P us ys → Each P (ts ++ us) (xs ++ ys)
@@ -90,9 +90,8 @@ learned : {K D : Type 0} (same : K → K → Bool) (use_in : FileNode → Option
     → map (λ e. e.node) es ≡ said ++ blanks n → end ≡ known
     → Learns same [] (filter_map (λ e. use_in e.node) es) end
     → Learns same [] (filter_map use_in said) known
-learned same use_in es said n end known none nodes is learns = subst (λ us. Learns same [] us known)
-    (uses_of_nodes use_in es ∙ ap (filter_map use_in) nodes ∙ use_nothing use_in said n none)
-    (subst (Learns same [] _) is learns)
+learned same use_in es said n end known none nodes is learns =
+    grind (arith, known, uses_of_nodes, use_nothing)
 
 pub known : {title note : List ℕ} {players : List (List ℕ)} (said : List FileNode)
     (before : List Token) (x : Place) → Says title note players said before → StandsAt before x

@@ -8,7 +8,7 @@ use Common.{content_of, slice_get, KnownSets, Described, Remaining, NewAction, S
 use Common.{position, set_with, same_set, label_of, count_of, AreAmong, past_set, Outcome}
 use Common.{Position, then_run, with_set, Content, nothing, Closing, length, Option, Action, SetKey}
 use Common.{set_of, Format, Lexeme, nat_eq, Result, Reader, placed, Memory, lexeme, Answer, answer}
-use Common.{arith, subst, Ratio, Fault, Begun, begun, State, heard, Fails, Grows, zero, Bool, true}
+use Common.{arith, subst, Ratio, Fault, Begun, begun, State, heard, Fails, Grows, Bool, true}
 use Common.{List, ◌++◌, Some, None, refl, ◌==◌, Game, Span, Kept, Bare, ◌≡◌, ◌+◌, ◌<◌, ◌≤◌}
 use Common.{suc, ◌∷◌, map, sym, ◌∙◌, run, Why, Err, [], ap, Ok, at}
 use Rattle.std.specs.Prelude.{OnOk, IfOk, IfNone, MatchResult}
@@ -26,7 +26,7 @@ use Rattle.gf_token.specs.declared.token.TextToken.{TextToken}
 use Rattle.gf_tree.specs.inner.AddsUp.{adds_up}
 use Rattle.gf_tree.specs.inner.FoundSet.{FoundOutcome, FoundSet}
 use Rattle.gf_tree.specs.inner.ReaderState.{with_text}
-use Rattle.gf_tree.proofs.lemmas.stores.FoundKeys.{described_at, found_from, not_described}
+use Rattle.gf_tree.proofs.lemmas.stores.FoundKeys.{described_at, not_described}
 use Rattle.gf_tree.proofs.lemmas.stores.FoundKeys.{set_in_parts}
 use Rattle.gf_tree.proofs.lemmas.games.TreesOnce.{same_set_equality}
 use Rattle.gf_tree.proofs.lemmas.games.Members.{something_there}
@@ -37,9 +37,8 @@ use Rattle.gf_tree.specs.declared.game.action.Action as held
 
 pub get_before : {A : Type 0} (xs ys : List A) (k : ℕ) → k < length xs
     → slice_get (xs ++ ys) k ≡ slice_get xs k
-get_before [] ys k h = absurd (omega (arith, h))
-get_before (x ∷ xs) ys zero h = refl
 get_before (x ∷ xs) ys (suc k) h = get_before xs ys k (omega (arith, h))
+get_before xs ys k h = grind arith
 
 pub get_next : {A : Type 0} (xs : List A) (x : A) → slice_get (xs ++ x ∷ []) (length xs) ≡ Some x
 get_next [] x = refl
@@ -182,8 +181,7 @@ module _ {E : Type 0} (r : Reader) (outcomes : KnownOutcomes) (number : ℕ) (na
   kept_outcome_key (Ok place) h is = grind (arith, at_next, get_next)
 
 pub if_none : {A : Type 0} {P : Type 0} (o : Option A) → P → IfNone o P
-if_none None p = p
-if_none (Some x) p = tt
+if_none o p = grind arith
 
 -- ---- a token is taken
 
@@ -210,12 +208,7 @@ pub set_again : (c : Content) (node : List ℕ) (player n a b : ℕ) (t : List �
     (description_at same_set c.sets (set_of player n))) c rest ≡ after
     → heard (SetNumber node player) c all ≡ after
 set_again c node player n a b t all rest after is number goes =
-    ap (heard (SetNumber node player) c) is
-    ∙ ap (λ (o : Option ℕ). record {
-      input = rest.input;
-      machine = then_run (placed a b (set_number c node player o))
-          (λ s. run (length rest.input) s.position s.content rest.ahead);
-    }) (sym number) ∙ goes
+    grind (arith, placed, set_number)
 
 -- ---- the number of a player
 
@@ -263,9 +256,8 @@ new_ended : (c : Content) (node : List ℕ) (player n : ℕ) (set : InformationS
     → false ≡ (length held == 0) → actions_of held ≡ actions → true ≡ adds_up player sum
     → new_set_ends c node (set_of player n) set actions sum
     ≡ Ok (set_known c node (set_of player n) set)
-new_ended c node player n set [] actions sum some is adds = absurd cc
-new_ended c node player n set (h ∷ hs) [] sum some is adds = absurd cc
 new_ended c node player n set (h ∷ hs) (a ∷ actions) sum some is adds = grind arith
+new_ended c node player n set held actions sum some is adds = absurd cc
 
 pub set_end : (c d : Content) (node : List ℕ) (player n : ℕ) (name : List ℕ)
     (actions : List Action) (sum : Ratio) (a b : ℕ) (all rest behind : Remaining)
@@ -276,23 +268,16 @@ pub set_end : (c d : Content) (node : List ℕ) (player n : ℕ) (name : List �
     → next ≡ begun node (set_of player n) (set_with name actions) → behind ≡ rest
     → heard (NewAction node (set_of player n) (set_with name actions) sum) c all
     ≡ heard (OutcomeNumber next) d behind
-set_end c d node player n name actions sum a b all rest behind held next is some acts adds
-    content begins same =
-    ap (heard (NewAction node (set_of player n) (set_with name actions) sum) c) is
-    ∙ ap (λ (o : Result State Why). record {
-      input = rest.input;
-      machine = then_run (placed a b o)
-          (λ s. run (length rest.input) s.position s.content rest.ahead);
-    }) (new_ended c node player n (set_with name actions) held actions sum some acts adds)
-    ∙ (λ i. heard (OutcomeNumber (sym begins i)) (sym content i) (sym same i))
+set_end c d node player n name actions sum a b all rest behind held next is some acts adds content
+    begins same =
+    grind (arith, placed, new_ended)
 
 -- ---- answers carried back
 
 pub goes_on : (result : Result ℕ Fault) (a b : Answer) (f : ℕ → Answer)
     → a ≡ b → MatchResult result (λ p. b ≡ f p) (λ g. Fails g b)
     → MatchResult result (λ p. a ≡ f p) (λ g. Fails g a)
-goes_on (Ok p) a b f e h = e ∙ h
-goes_on (Err g) a b f e h = subst (Fails g) (sym e) h
+goes_on result a b f e h = grind arith
 
 -- ---- an outcome that is known
 
@@ -333,8 +318,7 @@ pub lacks_memory : {f : Fault} {span : Span} {t : Remaining} {a : Answer} → St
     → f ≡ record { span = span; why = Memory } → (q : Position) (c : Content) → a ≡ heard q c t
     → Fails f a
 lacks_memory {f} {span} {t} {a} stands is q c goes =
-    let passed = passed_before next at_end t span stands (at q c) in
-    grind (arith, carried)
+    grind (arith, passed_before, next, at_end, carried)
 
 -- at the label of a player's action
 pub labelled : (t : Remaining) (label : TextToken) (c : Content) (node : List ℕ) (player n : ℕ)

@@ -4,7 +4,7 @@ use Rattle.gf_tree.proofs.Common.{new_set_ends, with_action, append-nil, IsFract
 use Rattle.gf_tree.proofs.Common.{run_tokens, NewAction, share_of, IsAction, then_run, Ok}
 use Rattle.gf_tree.proofs.Common.{with_set, Closing, Content, AddUpTo, length, Option, Result, List}
 use Rattle.gf_tree.proofs.Common.{AddsTo, Action, SetKey, set_of, shared, subst, arith, Token, ◌++◌}
-use Rattle.gf_tree.proofs.Common.{Ratio, whole, Share, begun, Some, None, refl, ints, ◌≤ℤ◌, Each, ℕ}
+use Rattle.gf_tree.proofs.Common.{Ratio, whole, Share, begun, Some, None, refl, ◌≤ℤ◌, Each, ℕ}
 use Rattle.gf_tree.proofs.Common.{Text, Bare, ◌≡◌, suc, ◌<◌, ◌∷◌, sym, ◌∙◌, pos, Why, ap}
 use Rattle.gf_tree.proofs.lemmas.runs.Tokens.{Reads, run_on, ratio_is}
 use Rattle.gf_tree.proofs.lemmas.runs.Shares.{share_found, share_again, sum_high}
@@ -47,16 +47,7 @@ new_end : (ts : List Token) (name : List ℕ) (player n : ℕ)
     → 0 < length set.actions → AreOthers player sum []
     → Reads (OutcomeNumber (begun name (set_of player n) set))
     (with_set c (set_of player n) set) ts r → NewActions (Closing ∷ ts) name player n set sum c r
-new_end ts name player n set sum c r some are e = record {
-  actions = [];
-  inner = [];
-  rest = ts;
-  parts = refl;
-  each = refl;
-  some = subst (λ (s : InformationSet). 0 < length s.actions) (sym (no_actions set)) some;
-  are = are;
-  goes_on = cc (no_actions set);
-}
+new_end ts name player n set sum c r some are e = grind (arith, no_actions)
 
 end_by_actions : (ts : List Token) (name : List ℕ) (player n : ℕ)
     (set : InformationSet) (actions : List Action) (sum : Ratio) (c r : Content)
@@ -100,8 +91,6 @@ pub new_found : (ts : List Token) (name : List ℕ) (player n : ℕ)
     (set : InformationSet) (sum : Ratio) (c r : Content) → IsFraction sum
     → Reads (NewAction name (set_of player n) set sum) c ts r
     → NewActions ts name player n set sum c r
-new_found (Closing ∷ ts) name player n set sum c r fraction e =
-    end_by_actions ts name player n set set.actions sum c r refl e
 new_found (Text label ∷ ts) name (suc player) n set sum c r fraction e =
     new_more (Text label ∷ []) ts name label (suc player) n set None sum sum c r (refl, refl)
     (λ actions h. (refl, h))
@@ -114,7 +103,7 @@ new_found (Text label ∷ Bare b ∷ ts) name zero n set sum c r fraction e =
     (b, s.probability, refl, is.number, refl)
     (λ actions k. (s.probability, s.sum, refl, is.not_below, is.adds, k))
     (new_found ts name 0 n (with_action set label (Some s.probability)) s.sum c r is.adds.1 h.2)
-new_found ts name player n set sum c r fraction e = grind arith
+new_found ts name player n set sum c r fraction e = grind (arith, end_by_actions)
 
 -- ---- each new set is read
 
@@ -132,8 +121,7 @@ first_share a actions p sum e h = grind arith
 -- the sum of the probabilities so far is at most one, if the others add up to one with it
 high : (actions : List Action) (inner : List Token) (sum : Ratio) → IsFraction sum
     → Each (IsAction 0) inner actions → AreOthers 0 sum actions → sum.num ≤ℤ pos sum.den
-high [] inner sum fraction each h =
-    subst (λ (x : Ratio). x.num ≤ℤ pos x.den) (sym h) (omega (arith, ints))
+high [] inner sum fraction each h = grind arith
 high (a ∷ actions) inner sum fraction each h =
     let p = each.3.1 in
     let s = first_share a actions p sum each.3.4 h in
@@ -155,12 +143,7 @@ pub new_again : (actions : List Action) (player : ℕ) (inner rest : List Token)
     ≡ run_tokens (OutcomeNumber (begun name (set_of player n) (with_actions set actions)))
     (with_set c (set_of player n) (with_actions set actions)) rest
 new_again [] player inner rest name n set sum c fraction each h some =
-    let filled = subst (λ (s : InformationSet). 0 < length s.actions) (no_actions set) some in
-    ap (λ (x : List Token). run_tokens (NewAction name (set_of player n) set sum) c
-    (x ++ Closing ∷ rest)) each
-    ∙ close_by_actions set.actions player rest name n set sum c filled h
-    ∙ ap (λ (s : InformationSet). run_tokens (OutcomeNumber (begun name (set_of player n) s))
-    (with_set c (set_of player n) s) rest) (sym (no_actions set))
+    grind (arith, no_actions, close_by_actions, begun)
 new_again (a ∷ actions) zero inner rest name n set sum c fraction each h some =
     let b = each.3.0 in
     let p = each.3.1 in

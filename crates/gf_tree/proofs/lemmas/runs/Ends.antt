@@ -76,9 +76,7 @@ nodes_end (suc due) c is = by_node NodeDue c (rw is refl)
 
 pub after_outcome : (due : ℕ) (outcome : Outcome) (c : Content) → c.due ≡ due
     → Completed (KnownOutcomeName outcome) c
-after_outcome zero outcome c is = none_due (KnownOutcomeName outcome) c (rw is refl)
-after_outcome (suc due) outcome c is =
-    by_node (KnownOutcomeName outcome) c (rw is refl) (nodes_end _ _ refl)
+after_outcome due outcome c is = grind (arith, none_due, by_node, nodes_end)
 
 pub after_players : (c : Content) → Completed AfterPlayers c
 after_players c = by_node AfterPlayers c refl (nodes_end _ _ refl)

@@ -1,7 +1,7 @@
 -- Runs over the heading of an extensive file: its format, title and players.
 use Rattle.gf_tree.proofs.Common.{append_assoc, AfterPlayers, with_player, pointwise}
 use Rattle.gf_tree.proofs.Common.{append-nil, run_tokens, InPlayers, Opening, Closing, Content, ◌≡◌}
-use Rattle.gf_tree.proofs.Common.{nothing, Version, nat_eq, braced, Format, Letter, subst, ℕ}
+use Rattle.gf_tree.proofs.Common.{nothing, Version, nat_eq, braced, Format, Letter, ℕ}
 use Rattle.gf_tree.proofs.Common.{arith, codes, Token, Title, Bool, true, List, ◌++◌, refl, Text}
 use Rattle.gf_tree.proofs.Common.{Bare, ◌||◌, ◌∷◌, map, sym, ◌∙◌, ◌⊎◌, [], ap, at}
 use Rattle.gf_tree.proofs.lemmas.runs.Tokens.{Reads, guard_ok, same_bytes}
@@ -31,14 +31,11 @@ only_letter : (ts : List Token) (c r : Content) → Reads Letter c ts r
     → (letter : List ℕ) × (rest : List Token) × (ts ≡ Bare letter ∷ rest)
     × ((letter ≡ codes "R") ⊎ (letter ≡ codes "D")) × Reads Title c rest r
 only_letter (Bare b ∷ rest) c r e =
-    let h = guard_ok (pointwise nat_eq b (codes "R") || pointwise nat_eq b (codes "D")) (at Title c)
-    _ rest r e in (
-      b,
-      rest,
-      refl,
-      either_letter b (pointwise nat_eq b (codes "R"))
-          (pointwise nat_eq b (codes "D")) refl refl h.0,
-      h.1,
+    grind (
+      arith,
+      either_letter b (pointwise nat_eq b (codes "R")) (pointwise nat_eq b (codes "D")) refl refl
+          (guard_ok (pointwise nat_eq b (codes "R") || pointwise nat_eq b (codes "D")) (at Title c)
+          _ rest r e).0,
     )
 only_letter _ c r e = absurd cc
 
@@ -46,8 +43,7 @@ only_title : (ts : List Token) (c r : Content) → Reads Title c ts r
     → (title : List ℕ) × (rest : List Token) × (ts ≡ Text title ∷ Opening ∷ rest)
     × Reads InPlayers (record c { title = title }) rest r
 only_title (Text title ∷ Opening ∷ rest) c r e = (title, rest, refl, e)
-only_title (Text title ∷ _) c r e = absurd cc
-only_title _ c r e = absurd cc
+only_title ts c r e = absurd cc
 
 abbrev with_players : Content → List (List ℕ) → Content
 with_players c players = record c { players = c.players ++ players }
@@ -65,8 +61,7 @@ players_found : (ts : List Token) (c r : Content) → Reads InPlayers c ts r
     × Reads AfterPlayers (with_players c players) rest r
 players_found (Text label ∷ ts) c r e =
     grind (arith, more_players, players_found ts (with_player c label) r e)
-players_found (Closing ∷ ts) c r e =
-    ([], ts, refl, subst (λ (d : Content). Reads AfterPlayers d ts r) (sym (no_players c)) e)
+players_found (Closing ∷ ts) c r e = grind (arith, no_players c)
 players_found _ c r e = absurd cc
 
 -- of this title and these players

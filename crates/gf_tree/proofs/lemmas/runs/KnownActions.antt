@@ -1,11 +1,11 @@
 -- Runs over the actions of a known information set in braces.
 use Rattle.gf_tree.proofs.Common.{arith, ◌≡◌, ℕ, zero, suc, List, [], ◌∷◌, ◌++◌, Option, Some, None}
-use Rattle.gf_tree.proofs.Common.{ap, subst, ◌∙◌, append_assoc, AllByRecursion, Token, Each}
+use Rattle.gf_tree.proofs.Common.{ap, subst, append_assoc, AllByRecursion, Token, Each}
 use Rattle.gf_tree.proofs.Common.{Closing, Text, Bare, Ratio, Action, AreActions}
 use Rattle.gf_tree.proofs.Common.{IsAction, Begun, Content, at, past_label, OutcomeNumber}
 use Rattle.gf_tree.proofs.Common.{KnownAction, run_tokens, AddUpTo, whole, pos}
-use Rattle.gf_tree.proofs.Common.{refl, then_run}
-use Rattle.gf_tree.proofs.lemmas.runs.Tokens.{Reads, run_on, text_found, text_again}
+use Rattle.gf_tree.proofs.Common.{refl}
+use Rattle.gf_tree.proofs.lemmas.runs.Tokens.{Reads, text_found, text_again}
 use Rattle.gf_tree.proofs.lemmas.runs.Payoffs.{number_found, number_same}
 
 -- each of chance has a probability, and none of a player has one
@@ -45,8 +45,7 @@ known_more first ts player a actions b c r is h = record {
 pub known_found : (actions : List Action) (player : ℕ) (ts : List Token) (b : Begun) (c r : Content)
     → AllByRecursion (HasProbability player) actions → Reads (KnownAction b actions) c ts r
     → KnownActions ts player actions b c r
-known_found [] player (Closing ∷ ts) b c r has e =
-    record { inner = []; rest = ts; parts = refl; each = refl; goes_on = e }
+known_found [] player (Closing ∷ ts) b c r has e = grind arith
 known_found [] player _ b c r has e = absurd cc
 known_found (a ∷ actions) zero (Text label ∷ Bare t ∷ ts) b c r has e =
     let h = text_found a.label label _ (Bare t ∷ ts) r e in
@@ -55,9 +54,7 @@ known_found (a ∷ actions) zero (Text label ∷ Bare t ∷ ts) b c r has e =
     known_more (Text label ∷ Bare t ∷ []) ts 0 a actions b c r
     (t, has.0.0, ap (λ (l : List ℕ). Text l ∷ Bare t ∷ []) h.0, x.0, has.0.1)
     (known_found actions 0 ts b c r has.1 x.1)
-known_found (a ∷ actions) zero (Text label ∷ ts) b c r has e =
-    let h = text_found a.label label _ ts r e in
-    let k = subst (λ o. Reads (past_label b o actions) c ts r) has.0.1 h.1 in absurd cc
+known_found (a ∷ actions) zero (Text label ∷ ts) b c r has e = grind (arith, text_found)
 known_found (a ∷ actions) (suc player) (Text label ∷ ts) b c r has e =
     let h = text_found a.label label _ ts r e in
     known_more (Text label ∷ []) ts (suc player) a actions b c r
@@ -70,9 +67,7 @@ pub label_again : (a : Action) (actions : List Action)
     (o : Option Ratio) (ts : List Token) (b : Begun) (c : Content) → a.probability ≡ o
     → run_tokens (KnownAction b (a ∷ actions)) c (Text a.label ∷ ts)
     ≡ run_tokens (past_label b o actions) c ts
-label_again a actions o ts b c is =
-    ap (λ o. then_run o (run_on ts)) (text_again a.label (at (past_label b a.probability actions) c))
-    ∙ ap (λ (p : Option Ratio). run_tokens (past_label b p actions) c ts) is
+label_again a actions o ts b c is = grind (arith, text_again)
 
 pub known_again : (actions : List Action) (player : ℕ)
     (inner rest : List Token) (b : Begun) (c : Content) → Each (IsAction player) inner actions
@@ -80,13 +75,12 @@ pub known_again : (actions : List Action) (player : ℕ)
     ≡ run_tokens (OutcomeNumber b) c rest
 known_again [] player inner rest b c each = rw each refl
 known_again (a ∷ actions) zero inner rest b c each =
-    let t = each.3.0 in
-    let p = each.3.1 in
-    let first : inner ++ Closing ∷ rest ≡ Text a.label ∷ Bare t ∷ (each.1 ++ Closing ∷ rest) = cc in
-    ap (run_tokens (KnownAction b (a ∷ actions)) c) first
-    ∙ label_again a actions (Some p) (Bare t ∷ (each.1 ++ Closing ∷ rest)) b c each.3.4
-    ∙ ap (λ o. then_run o (run_on (each.1 ++ Closing ∷ rest)))
-    (number_same p (at (KnownAction b actions) c) t each.3.3)
-    ∙ known_again actions 0 each.1 rest b c each.4
+    grind (
+      arith,
+      label_again a actions (Some each.3.1) (Bare each.3.0 ∷ (each.1 ++ Closing ∷ rest))
+          b c each.3.4,
+      number_same each.3.1 (at (KnownAction b actions) c) each.3.0 each.3.3,
+      known_again actions 0 each.1 rest b c each.4,
+    )
 known_again (a ∷ actions) (suc player) inner rest b c each =
     grind (arith, known_again actions (suc player) each.1 rest b c each.4, label_again)

@@ -70,8 +70,7 @@ Kept {K} {D} same known end = (key : K) (d : D) → description_at same known ke
 kept_more : {K D : Type 0} (same : K → K → Bool) (known : List (Described K D)) (x : Described K D)
     → Kept same known (known ++ x ∷ [])
 kept_more same [] x key d e = absurd cc
-kept_more {K} {D} same (y ∷ known) x key d e =
-    grind (arith, kept_more same known x key d)
+kept_more {K} {D} same (y ∷ known) x key d e = grind (arith, kept_more same known x key d)
 
 pub kept : {K D : Type 0} (same : K → K → Bool)
     (us : List (Use K D)) (known end : List (Described K D))

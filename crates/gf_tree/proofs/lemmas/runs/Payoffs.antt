@@ -83,38 +83,20 @@ paid_found c b n outcome left o ts r e = grind arith
 new_end : (may : Bool) (ts : List Token) (b : Begun) (n : ℕ) (outcome : Outcome) (c r : Content)
     → Reads NodeDue (new_result c b n outcome) ts r
     → NewPayoffs may (Closing ∷ ts) b n outcome zero c r
-new_end may ts b n outcome c r e = record {
-  numbers = [];
-  rest = ts;
-  are = no_numbers may ts;
-  count = refl;
-  goes_on = cc (no_payoffs outcome);
-}
+new_end may ts b n outcome c r e = grind (arith, no_numbers may ts, no_payoffs outcome)
 
 new_more : (may : Bool) (t : List ℕ) (p : Ratio) (ts : List Token)
     (b : Begun) (n : ℕ) (outcome : Outcome) (left : ℕ) (c r : Content) → number_of t ≡ Ok p
     → NewPayoffs true ts b n (with_payoff outcome p) left c r
     → NewPayoffs may (Bare t ∷ ts) b n outcome (suc left) c r
-new_more may t p ts b n outcome left c r e h = record {
-  numbers = p ∷ h.numbers;
-  rest = h.rest;
-  are = more_numbers may t p ts h.numbers h.rest (number_is t p e) h.are;
-  count = ap suc h.count;
-  goes_on = rw (← more_payoffs outcome p h.numbers) h.goes_on;
-}
+new_more may t p ts b n outcome left c r e h =
+    grind (arith, more_numbers, number_is, more_payoffs)
 
 pub new_found : (may : Bool) (ts : List Token) (b : Begun)
     (n : ℕ) (outcome : Outcome) (left : ℕ) (c r : Content)
     → Reads (NewPayoff may b n outcome left) c ts r → NewPayoffs may ts b n outcome left c r
 new_found true (Comma ∷ ts) b n outcome left c r e =
-    let h = new_found false ts b n outcome left c r e in
-    record {
-      numbers = h.numbers;
-      rest = h.rest;
-      are = past_comma ts h.numbers h.rest h.are;
-      count = h.count;
-      goes_on = h.goes_on;
-    }
+    grind (arith, past_comma, new_found false ts b n outcome left c r e)
 new_found may (Bare t ∷ ts) b n outcome (suc left) c r e =
     let h = paid_found c b n outcome left (number_of t) ts r e in
     new_more may t h.0 ts b n outcome left c r h.1
@@ -132,8 +114,7 @@ comma_again at_comma comma ts o passes either h = grind arith
 first_number : (n : Ratio) (numbers : List Ratio) (inner rest : List Token)
     (h : Each IsPayoffInBraces inner (n ∷ numbers))
     → inner ++ Closing ∷ rest ≡ Bare h.3.0 ∷ (h.3.1 ++ (h.1 ++ Closing ∷ rest))
-first_number n numbers inner rest h =
-    cc (h.2, h.3.2, append_assoc (Bare h.3.0 ∷ h.3.1) h.1 (Closing ∷ rest))
+first_number n numbers inner rest h = grind arith
 
 pub new_again : (numbers : List Ratio) (inner rest : List Token)
     (b : Begun) (n : ℕ) (outcome : Outcome) (c : Content)
@@ -142,16 +123,14 @@ pub new_again : (numbers : List Ratio) (inner rest : List Token)
     ≡ run_tokens NodeDue (new_result c b n (with_payoffs outcome numbers)) rest
 new_again [] inner rest b n outcome c h may = cc (h, no_payoffs outcome)
 new_again (p ∷ numbers) inner rest b n outcome c h may =
-    let passed = with_payoff outcome p in
-    let more = h.3.1 ++ (h.1 ++ Closing ∷ rest) in
-    ap (run_tokens (NewPayoff may b n outcome (suc (length numbers))) c)
-    (first_number p numbers inner rest h)
-    ∙ ap (λ o. then_run (paid c b n outcome (length numbers) o) (run_on more))
-    (number_again h.3.0 p h.3.3)
-    ∙ comma_again (λ m. run_tokens (NewPayoff m b n passed (length numbers)) c) h.3.1
-    (h.1 ++ Closing ∷ rest) _ refl h.3.4 (new_again numbers h.1 rest b n passed c h.4)
-    ∙ ap (λ (o : Outcome). run_tokens NodeDue (new_result c b n o) rest)
-    (more_payoffs outcome p numbers)
+    grind (
+      arith,
+      first_number p numbers inner rest h,
+      number_again h.3.0 p h.3.3,
+      new_again
+          numbers h.1 rest b n (with_payoff outcome p) c h.4,
+      more_payoffs outcome p numbers,
+    )
 
 -- ---- of a known outcome
 
@@ -165,8 +144,7 @@ same_found wanted s o ts r e = grind arith
 pub number_found : (wanted : Ratio) (s : State) (t : List ℕ) (ts : List Token) (r : Content)
     → then_run (same_number wanted s (number_of t)) (run_on ts) ≡ Ok r
     → IsNumber t wanted × Reads s.position s.content ts r
-number_found wanted s t ts r e =
-    let h = same_found wanted s (number_of t) ts r e in (number_is t wanted h.0, h.1)
+number_found wanted s t ts r e = grind (arith, same_found, number_is)
 
 pub number_same : (p : Ratio) (s : State) (t : List ℕ) → IsNumber t p
     → same_number p s (number_of t) ≡ Ok s
@@ -188,9 +166,4 @@ pub known_again : (ps : List Ratio) (inner rest : List Token) (c : Content)
     → run_tokens (KnownPayoff may ps) c (inner ++ Closing ∷ rest) ≡ run_tokens NodeDue c rest
 known_again [] inner rest c h may = rw h refl
 known_again (p ∷ ps) inner rest c h may =
-    let more = h.3.1 ++ (h.1 ++ Closing ∷ rest) in
-    ap (run_tokens (KnownPayoff may (p ∷ ps)) c) (first_number p ps inner rest h)
-    ∙ ap (λ o. then_run o (run_on more))
-    (number_same p (at (KnownPayoff true ps) c) h.3.0 h.3.3)
-    ∙ comma_again (λ m. run_tokens (KnownPayoff m ps) c) h.3.1 (h.1 ++ Closing ∷ rest) _ refl
-    h.3.4 (known_again ps h.1 rest c h.4)
+    grind (arith, first_number, number_same, comma_again, known_again ps h.1 rest c h.4)

@@ -14,11 +14,7 @@ pub record IsShare (r : Ratio) : Type 0 where
   pub high : r.num ≤ℤ pos r.den
 
 pub zero_share : IsShare (whole (pos 0))
-zero_share = record {
-  fraction = whole_fraction 0 (omega arith);
-  low = omega (arith, ints);
-  high = omega (arith, ints);
-}
+zero_share = grind (arith, whole_fraction)
 
 -- numbers not below zero have a sum that is not
 pub sum_low : (x y r : Ratio)
@@ -36,8 +32,7 @@ abbrev over : ℕ → ℕ → Ratio
 over a d = record { num = pos a; den = d }
 
 left_apart : (a d : ℕ) → a ≤ d → IsGcd a d 1 → IsGcd (d - a) d 1
-left_apart a d within is =
-    (one-dvd _, one-dvd _, λ e p q. is.2 e ((dvd-sub_iff_right e within q).0 p) q)
+left_apart a d within is = grind (arith, one-dvd, dvd-sub_iff_right)
 
 of_parts : (a d : ℕ) → a ≤ d → IsFraction (over a d) → Remainder (over a d)
 of_parts a d within is =

@@ -15,6 +15,7 @@ use Rattle.gf_tree.proofs.lemmas.runs.KnownActions.{probabilities, known_found, 
 use Rattle.gf_tree.proofs.lemmas.runs.Learned.{one, use_of, learns_new, learns_again, one_use}
 use Rattle.gf_tree.proofs.lemmas.runs.Learned.{IsNew, IsKnown, at_new, found_has}
 use Rattle.gf_tree.proofs.lemmas.Once.{one_some}
+use Rattle.gf_tree.proofs
 
 -- these sets are known
 abbrev pub with_sets : Content → List (Described SetKey InformationSet) → Content
@@ -94,8 +95,7 @@ known_after (Text label ∷ Opening ∷ ts) name player n set c r are known e =
       are = are;
       goes_on = k.goes_on;
     }
-known_after (Text label ∷ ts) name player n set c r are known e =
-    let h = text_found set.name label _ ts r e in absurd (let other = h.1 in cc)
+known_after (Text label ∷ ts) name player n set c r are known e = grind (arith, text_found)
 known_after ts name player n set c r are known e = grind arith
 
 past_found : (ts : List Token) (name : List ℕ)
@@ -122,24 +122,12 @@ number_by : (ts : List Token) (t : List ℕ) (o : Option ℕ)
     → player ≤ length c.players → AreSets (length c.players) c.sets → count_of t ≡ o
     → then_run (set_number c name player o) (run_on ts) ≡ Ok r
     → SetRead (Bare t ∷ ts) name player c r
-number_by ts t None name player c r among are is e = absurd cc
-number_by ts t (Some n) name player c r among are is e =
-    let k = count_is t n is in
-    record {
-      number = t;
-      n = n;
-      others = ts;
-      first = refl;
-      is_number = (k.1, k.0);
-      behind = past_found ts name player n (description_at same_set c.sets (set_of player n)) c r
-          among k.0 are refl e;
-    }
+number_by ts t o name player c r among are is e = grind (arith, count_is, past_found)
 
 pub set_found : (ts : List Token) (name : List ℕ) (player : ℕ) (c r : Content)
     → player ≤ length c.players → AreSets (length c.players) c.sets
     → Reads (SetNumber name player) c ts r → SetRead ts name player c r
-set_found (Bare t ∷ ts) name player c r among are e =
-    number_by ts t (count_of t) name player c r among are refl e
+set_found (Bare t ∷ ts) name player c r among are e = grind (arith, number_by)
 set_found _ name player c r among are e = absurd cc
 
 -- ---- each set of a node is read

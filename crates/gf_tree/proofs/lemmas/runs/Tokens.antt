@@ -39,9 +39,7 @@ bytes_same b = (slice_eq-Decides Decides-eqb b b (pointwise nat_eq b b) refl).1 
 pub text_found : (wanted label : List ℕ) (s : State) (ts : List Token) (r : Content)
     → then_run (same_text wanted label s) (run_on ts) ≡ Ok r
     → (label ≡ wanted) × Reads s.position s.content ts r
-text_found wanted label s ts r e =
-    let h = guard_ok (pointwise nat_eq label wanted) s _ ts r e in
-    (same_bytes label wanted h.0, h.1)
+text_found wanted label s ts r e = grind (arith, guard_ok, same_bytes)
 
 pub text_again : (wanted : List ℕ) (s : State) → same_text wanted wanted s ≡ Ok s
 text_again wanted s = rw (bytes_same wanted) refl

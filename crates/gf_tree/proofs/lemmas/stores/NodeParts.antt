@@ -1,12 +1,12 @@
 -- The parts of a node as it is kept: who moves there, its actions, and the place after its subtree.
 use Rattle.gf_tree.proofs.Common
-use Common.{get_or_from_slice_get, false_from_ne_true, position_from-zero, slice_get_within, length}
+use Common.{get_or_from_slice_get, position_from-zero, slice_get_within, length}
 use Common.{outcome_numbers, InformationSet, position_from, slice_get-map, subtree_sizes, slice_get}
 use Common.{used_outcomes, number_among, subtrees_all, MatchOption, Decides-eqb, at_position, subst}
 use Common.{child_trees, option_map, subtree_at, same_Some, Described, game_with, tree_with, get_or}
-use Common.{root_node, position, eqb-true, drop-map, known_of, AreNodes, subtrees, flatten, Outcome}
+use Common.{root_node, position, drop-map, known_of, AreNodes, subtrees, flatten, Outcome}
 use Common.{IsAmong, kept_of, skipped, branch, Stored, Action, SetKey, set_of, IsGame, set_at, zero}
-use Common.{nat_eq, arith, false, Parts, Begin, List, ◌++◌, drop, take, Some, None, refl, Tree, ◌≡◌}
+use Common.{nat_eq, arith, Parts, Begin, List, ◌++◌, drop, take, Some, None, refl, Tree, ◌≡◌}
 use Common.{more, Game, Node, suc, ◌+◌, ◌-◌, ◌<◌, ◌≤◌, ◌∷◌, map, sym, ◌∙◌, [], ap, ℕ}
 use Rattle.std.proofs.lemmas.List.{append-nil, drop-drop}
 use Rattle.gf_tree.specs.inner.GameParts.{IsKeptAt}
@@ -18,10 +18,10 @@ use Rattle.gf_tree.proofs.lemmas.stores.GameNodes.{children_there, node_there, p
 use Rattle.gf_tree.proofs.lemmas.stores.Places.{at_index}
 use Rattle.gf_tree.proofs.lemmas.games.Lookups.{entry_at}
 use Rattle.gf_tree.proofs.lemmas.games.TreesOnce.{same_set_equality}
-use Rattle.gf_tree.proofs.lemmas.games.Uses.{Has}
 use Rattle.gf_tree.proofs.lemmas.stores.RenumberedStores.{is_among}
 use Rattle.gf_tree.proofs.lemmas.stores.SubtreeSizes.{begin_first, stands, subtrees_counted}
 use Rattle.gf_tree.proofs.lemmas.games.Members.{has_at, something_there}
+use Rattle.gf_tree.proofs.lemmas
 
 from_there : {A : Type 0} (xs : List A) (k : ℕ) (x : A) → slice_get xs k ≡ Some x
     → drop k xs ≡ x ∷ drop (k + 1) xs
@@ -46,11 +46,7 @@ begin_here {N} t at h =
 skips_more : (n : ℕ) (xs : List ℕ) → Begin (suc n) xs
     → skipped (suc n) xs ≡ skipped n xs + skipped 1 (drop (skipped n xs) xs)
 skips_more (suc n) (s ∷ xs) h =
-    let rest = drop s (s ∷ xs) in
-    let more = skips_more n rest h.1 in
-    let same : drop (s + skipped n rest) (s ∷ xs) ≡ drop (skipped n rest) rest =
-    sym (drop-drop (skipped n rest) s (s ∷ xs)) in
-    rw same (omega (arith, more))
+    grind (arith, more, drop-drop, skips_more n (drop s (s ∷ xs)) h.1)
 skips_more n xs h = grind arith
 
 -- the branch of the next child, and the place of the one after it
@@ -123,9 +119,7 @@ actions_there g game place key actions at are =
 position_after : (ns : List ℕ) (start k n : ℕ) → AreDistinct ns → slice_get ns k ≡ Some n
     → position_from (nat_eq n) start ns ≡ Some (start + k)
 position_after (m ∷ ns) start (suc k) n d h =
-    let other : nat_eq n m ≡ false = false_from_ne_true (nat_eq n m)
-    (λ t. d.0 (subst (Has ns) (eqb-true n m t) (has_at ns k n h))) in
-    rw other (position_after ns (start + 1) k n d.1 h ∙ ap Some (omega arith))
+    grind (arith, has_at, position_after ns (start + 1) k n d.1 h)
 position_after ns start k n d h = grind arith
 
 position_is : (ns : List ℕ) (k n : ℕ) → AreDistinct ns → slice_get ns k ≡ Some n

@@ -23,8 +23,7 @@ others_mapped f n ts = grind arith
 grow_mapped : {N M : Type 0} (f : N → M) (es : List (Listed N))
     → grow (map (map_entry f) es) ≡ map_trees f (grow es)
 grow_mapped f [] = refl
-grow_mapped f (e ∷ es) =
-    cc (grow_mapped f es, first_mapped f e.children (grow es), others_mapped f e.children (grow es))
+grow_mapped f (e ∷ es) = grind (arith, first_mapped, others_mapped, grow_mapped f es)
 
 root_mapped : (r : Renumbering) (ts : Trees Node) → root no_node (map_trees (renumbered_node r) ts)
     ≡ map_tree (renumbered_node r) (root no_node ts)

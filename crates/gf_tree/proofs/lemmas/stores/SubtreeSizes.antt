@@ -29,8 +29,7 @@ pub slice_get_after : {X : Type 0} (xs : List X) (a b : ℕ)
     → slice_get xs (a + b) ≡ slice_get (drop a xs) b
 slice_get_after xs zero b = ap (slice_get xs) (zero-add b)
 slice_get_after [] (suc a) b = refl
-slice_get_after (x ∷ xs) (suc a) b =
-    let e : suc a + b ≡ suc (a + b) = omega arith in rw e (slice_get_after xs a b)
+slice_get_after (x ∷ xs) (suc a) b = grind (arith, slice_get_after xs a b)
 
 -- ---- a tree has as many subtrees as nodes
 

@@ -1,5 +1,4 @@
 use Rattle.gf_tree.proofs.Common.{◌∙◌}
-use Rattle.gf_tree.proofs.read.read_efg.Goals as goal
 
-pub returns-in-Ok-clause-only : goal.returns-in-Ok-clause-only
+pub returns-in-Ok-clause-only : Rattle.gf_tree.proofs.read.read_efg.Goals.returns-in-Ok-clause-only
 returns-in-Ok-clause-only c = λ g spells. c.into_game.ensures ∙ c.in-Ok.ensures.only g spells

@@ -23,8 +23,7 @@ overflow_sub-first_use_number c =
 
 pub index-requires : goal.index-requires
 index-requires c =
-    let r = found c (its_game _ _ c.self.invariant.is_game c.self.view_is) in
-    omega (arith, r.within, c.index-sets-player.result.ok.0)
+    grind (arith, found c (its_game _ _ c.self.invariant.is_game c.self.view_is))
 
 pub returns : goal.returns
 returns c =

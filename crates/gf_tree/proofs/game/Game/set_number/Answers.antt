@@ -1,9 +1,8 @@
 use Rattle.gf_tree.proofs.Common.{ℕ, List, ◌∙◌, ap, map, sym, at_position, SetKey, InformationSet}
 use Rattle.gf_tree.proofs.Common.{Described, player_keys, Game, known_of}
 use Rattle.gf_tree.proofs.lemmas.games.Members.{map_twice}
-use Rattle.gf_tree.proofs.game.Game.set_number.Goals as goal
 
-pub returns : goal.returns
+pub returns : Rattle.gf_tree.proofs.game.Game.set_number.Goals.returns
 returns c =
     let numbers =
     map_twice (λ (k : SetKey). k.number) (λ (s : Described SetKey InformationSet). s.key)

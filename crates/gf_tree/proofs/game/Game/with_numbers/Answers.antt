@@ -5,9 +5,8 @@ use Rattle.gf_tree.specs.inner.GameParts.{parts_of}
 use Rattle.gf_tree.proofs.lemmas.games.Made.{its_game, renumbered_held}
 use Rattle.gf_tree.proofs.lemmas.games.ListedNumbers.{listed_is_renumbering}
 use Rattle.gf_tree.proofs.lemmas.stores.RenumberedKept.{game_mapped, outcome_image, set_image}
-use Rattle.gf_tree.proofs.game.Game.with_numbers.Goals as goal
 
-pub invariant_of-result : goal.invariant_of-result
+pub invariant_of-result : Rattle.gf_tree.proofs.game.Game.with_numbers.Goals.invariant_of-result
 invariant_of-result c =
     let r =
     listed_numbers c.args.self.now (map (λ own. own.items) c.args.sets.now) c.args.outcomes.now in
@@ -32,7 +31,7 @@ invariant_of-result c =
     (subst (AllByRecursion (λ (o : Described ℕ Outcome). o.key < 2 ^ 32)) outcomes
     c.in_ok-outcomes.ensures.small))
 
-pub returns : goal.returns
+pub returns : Rattle.gf_tree.proofs.game.Game.with_numbers.Goals.returns
 returns c =
     let r =
     listed_numbers c.args.self.now (map (λ own. own.items) c.args.sets.now) c.args.outcomes.now in

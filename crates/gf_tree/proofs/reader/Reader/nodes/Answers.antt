@@ -1,9 +1,8 @@
 use Rattle.gf_tree.proofs.Common.{◌+◌, ◌-◌, ℕ, NodeDue, answer, arith, subst, sym, HasRead}
 use Rattle.gf_tree.proofs.Common.{heading_read}
 use Rattle.gf_tree.proofs.lemmas.reader.Telling.{read_one_more}
-use Rattle.gf_tree.proofs.reader.Reader.nodes.Goals as goal
 
-pub loop-self-preserved : goal.loop-self-preserved
+pub loop-self-preserved : Rattle.gf_tree.proofs.reader.Reader.nodes.Goals.loop-self-preserved
 loop-self-preserved g c =
     let holds = g.R.Receive.holds in
     let node = c.in_ok-set.ensures in

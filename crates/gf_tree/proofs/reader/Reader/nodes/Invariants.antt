@@ -1,8 +1,7 @@
 use Rattle.std.specs.Prelude.{◌+◌, ◌*◌, ◌^◌, ◌<◌}
 use Rattle.gf_tree.proofs.Common.{[], length, NodeDue, answer, HasRead, heading_read}
-use Rattle.gf_tree.proofs.reader.Reader.nodes.Given as goal
 
-abbrev pub invariant-loop-self : goal.invariant-loop-self
+abbrev pub invariant-loop-self : Rattle.gf_tree.proofs.reader.Reader.nodes.Given.invariant-loop-self
 invariant-loop-self g l = record {
   read : (untold : g.row.R.Denot) → g.R.Receive.holds untold l.fn.to (heading_read l.fn.self) []
       → HasRead (λ r told. g.R.Receive.holds untold r (heading_read l.fn.self) told)
@@ -11,5 +10,5 @@ invariant-loop-self g l = record {
   room : l.self.due + length l.self.tokens.ahead * 18446744073709551616 < 2 ^ 128;
 }
 
-abbrev pub decreases-loop-self : goal.decreases-loop-self
+abbrev pub decreases-loop-self : Rattle.gf_tree.proofs.reader.Reader.nodes.Given.decreases-loop-self
 decreases-loop-self g l = length l.self.tokens.ahead

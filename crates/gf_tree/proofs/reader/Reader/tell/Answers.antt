@@ -1,8 +1,7 @@
 use Rattle.gf_tree.proofs.Common.{refl, rules, label_of}
 use Rattle.gf_tree.proofs.lemmas.reader.Telling.{told_goes}
-use Rattle.gf_tree.proofs.reader.Reader.tell.Goals as goal
 
-pub returns : goal.returns
+pub returns : Rattle.gf_tree.proofs.reader.Reader.tell.Goals.returns
 returns g c = record {
   goes = told_goes c.args.self.now c.max-self.result c.max-self-2.result
       (record { name = label_of c.args.name; set = c.args.set; outcome = c.args.outcome });

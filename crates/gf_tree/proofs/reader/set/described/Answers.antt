@@ -1,8 +1,7 @@
 use Rattle.gf_tree.proofs.Common.{◌∙◌, sym, label_of, actions_of, set_of}
 use Rattle.gf_tree.proofs.lemmas.reader.Steps.{found_set}
-use Rattle.gf_tree.proofs.reader.set.described.Goals as goal
 
-pub returns-clause-known : goal.returns-clause-known
+pub returns-clause-known : Rattle.gf_tree.proofs.reader.set.described.Goals.returns-clause-known
 returns-clause-known c =
     let place = sym c.find.ensures ∙ c.in_ok-place.was in
     found_set c.args.sets.now.known (set_of c.args.player c.args.number) c.in_ok-place.place

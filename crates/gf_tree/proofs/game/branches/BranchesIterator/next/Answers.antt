@@ -1,4 +1,4 @@
-use Rattle.gf_tree.proofs.Common.{◌∙◌, arith, refl}
+use Rattle.gf_tree.proofs.Common.{◌∙◌, arith}
 use Rattle.gf_tree.proofs.lemmas.stores.NodeParts.{next_child}
 use Rattle.gf_tree.proofs.game.branches.BranchesIterator.next.Goals as goal
 
@@ -25,8 +25,4 @@ invariant_of-self c =
     }
 
 pub returns-clause-steps : goal.returns-clause-steps
-returns-clause-steps c =
-    let b = c.args.self.now in
-    let next = next_child b.game.now.tree b.at b.before b.place b.within
-    (omega (arith, c.if-self-child_count.false, c.child_count.ensures)) b.stands in
-    (rw c.at_place-branch.ensures.tree next.there, refl, (c.at_place-branch.ensures.game, refl))
+returns-clause-steps c = grind (arith, next_child)

@@ -1,8 +1,7 @@
 use Rattle.gf_tree.proofs.Common.{refl, arith, rules}
 use Rattle.gf_tree.proofs.lemmas.stores.OutcomesStored.{outcome_stored}
-use Rattle.gf_tree.proofs.game.outcomes.Outcomes.end.Goals as goal
 
-pub invariant_of-self-2 : goal.invariant_of-self-2
+pub invariant_of-self-2 : Rattle.gf_tree.proofs.game.outcomes.Outcomes.end.Goals.invariant_of-self-2
 invariant_of-self-2 c =
     let o = c.self.inside in
     outcome_stored o.entries.entries o.payoffs.items o.from c.args.self.now c.self.view_is

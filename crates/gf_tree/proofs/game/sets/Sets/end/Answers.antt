@@ -1,16 +1,12 @@
-use Rattle.gf_tree.proofs.Common.{List, arith, rules, subst, HoldActions, end_of, ap, ◌∙◌, position}
-use Rattle.std.specs.Map.{keys_of}
-use Rattle.gf_tree.proofs.lemmas.stores.SetsStored.{Entry, are_then, below_then, found, same_stored, view_then}
+use Rattle.gf_tree.proofs.Common.{List, arith, rules, subst, HoldActions, end_of}
+use Rattle.gf_tree.proofs.lemmas.stores.SetsStored.{Entry, are_then, below_then, found, view_then}
 use Rattle.gf_tree.specs.declared.game.action.Action.{Action as Held}
-use Rattle.gf_tree.specs.declared.game.sets.SetKey.{SetKey as StoredKey}
 use Rattle.gf_tree.proofs.game.sets.Sets.end.Goals as goal
 
 pub push-requires-clause-absent : goal.push-requires-clause-absent
 push-requires-clause-absent c =
-    let s = c.self.inside in
-    let key : StoredKey = record { player = c.args.player; number = c.args.number } in
-    ap (λ (es : List Entry). position (same_stored key) (keys_of es)) c.make_room.ensures.entries
-    ∙ found s.entries.entries s.actions.items s.from c.args.self.now c.self.view_is key ∙ c.requires
+    cc (found c.self.inside.entries.entries c.self.inside.actions.items c.self.inside.from
+    c.args.self.now c.self.view_is (record { player = c.args.player; number = c.args.number }))
 
 pub invariant_of-self-2 : goal.invariant_of-self-2
 invariant_of-self-2 c =

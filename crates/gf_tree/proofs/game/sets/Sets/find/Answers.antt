@@ -12,14 +12,10 @@ returns-then-number-self c =
 
 pub returns-in-Some : goal.returns-in-Some
 returns-in-Some c =
-    let s = c.self.inside in
-    sym c.in-Some.is ∙ c.find.ensures
-    ∙ found s.entries.entries s.actions.items s.from c.args.self.now c.self.view_is
-    (record { player = c.args.player; number = c.args.number })
+    cc (found c.self.inside.entries.entries c.self.inside.actions.items c.self.inside.from
+    c.args.self.now c.self.view_is (record { player = c.args.player; number = c.args.number }))
 
 pub returns-in-None : goal.returns-in-None
 returns-in-None c =
-    let s = c.self.inside in
-    sym c.in-None.is ∙ c.find.ensures
-    ∙ found s.entries.entries s.actions.items s.from c.args.self.now c.self.view_is
-    (record { player = c.args.player; number = c.args.number })
+    cc (found c.self.inside.entries.entries c.self.inside.actions.items c.self.inside.from
+    c.args.self.now c.self.view_is (record { player = c.args.player; number = c.args.number }))

@@ -1,8 +1,7 @@
 use Rattle.gf_tree.proofs.Common.{rules}
 use Rattle.gf_tree.proofs.lemmas.stores.SetsStored.{action_pushed, still_sets}
-use Rattle.gf_tree.proofs.game.sets.Sets.push.Goals as goal
 
-pub invariant_of-self-2 : goal.invariant_of-self-2
+pub invariant_of-self-2 : Rattle.gf_tree.proofs.game.sets.Sets.push.Goals.invariant_of-self-2
 invariant_of-self-2 c =
     let s = c.self.inside in (
       still_sets s.players.items s.entries.entries s.actions.items s.from c.self.invariant.0
@@ -11,7 +10,7 @@ invariant_of-self-2 c =
       c.self.invariant.1,
     )
 
-pub returns-clause-ok : goal.returns-clause-ok
+pub returns-clause-ok : Rattle.gf_tree.proofs.game.sets.Sets.push.Goals.returns-clause-ok
 returns-clause-ok c =
     let s = c.self.inside in
     action_pushed s.players.items s.entries.entries s.actions.items s.from c.self.invariant.0
