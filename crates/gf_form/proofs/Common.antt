@@ -99,8 +99,6 @@ pub use Rattle.gf_fraction.proofs.Offered.{sum_of-some, times_above, times_right
 pub use Rattle.gf_fraction.proofs.Offered.{all_joined, all_weaker, equal_refl, plus_above, *ℤ_assoc}
 pub use Rattle.gf_fraction.proofs.Offered.{plus_right, times_plus, times_zero, mul_above, plus_both}
 pub use Rattle.gf_fraction.proofs.Offered.{plus_left, all_both, IsAbove, *ℤ-one, add-*ℤ, ◌then◌}
-pub use Rattle.gf_fraction.proofs.Offered.{plus_assoc, plus_comm, plus_zero, times_assoc}
-pub use Rattle.gf_fraction.proofs.Offered.{times_comm, times_left, times_one, total_above}
 pub use Rattle.gf_fraction.specs.Offered.{product_of, sum_of, lowest_of}
 pub use Rattle.gf_fraction.specs.Sum.{scaled_num, SumFits, AddsTo, IsLcm, IsSum}
 pub use Rattle.gf_fraction.specs.Product.{MultipliesTo, IsProduct}
@@ -169,7 +167,7 @@ pub use Rattle.std.proofs.lemmas.List.{length-take-le, reverse-append, length-ap
 pub use Rattle.std.proofs.lemmas.List.{get_or_past, get_or_push, length-drop, length-take, set_past}
 pub use Rattle.std.proofs.lemmas.List.{append-nil, ext_get_or, get_or-map, length-map, length-set}
 pub use Rattle.std.proofs.lemmas.List.{map-append, drop-drop, take_more, take-map, take_all}
-pub use Rattle.std.proofs.lemmas.List.{take-append-le, take_rest, map_more, map_push}
+pub use Rattle.std.proofs.lemmas.List.{take-append-le, take_rest, map_push}
 pub use Rattle.std.proofs.lemmas.List.Elements.{All-from_recursion, Contains-get_or}
 pub use Rattle.std.proofs.lemmas.List.Elements.{recursion_from_All, All-get_or, All-from_get_or}
 pub use Rattle.std.proofs.lemmas.List.Elements.{filter_map-append, All-contains}

@@ -5,7 +5,6 @@ pub mod FlatRows
 pub mod PayingTerms
 pub mod ListedTerms
 pub mod MergedTerms
-pub mod Merges
 pub mod PairRows
 pub mod Descents
 pub mod ReachedValues

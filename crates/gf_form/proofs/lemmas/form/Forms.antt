@@ -12,7 +12,7 @@ use Common.{IsEqual, IsTable, add-one, has_map, product, suc-mul, IsGame, SetKey
 use Common.{payoff, Ratio, Table, arith, subst, Game, List, Some, drop, each, refl, rows, take, Has}
 use Common.{zero, ◌++◌, has, inl, inr, map, suc, sym, ◌*◌, ◌+◌, ◌<◌, ◌↔◌, ◌∙◌, ◌∷◌, ◌≡◌, ◌≤◌}
 use Rattle.gf_form.proofs.lemmas.strategies.CountedActions.{as_many_players, some_strategy}
-use Rattle.gf_form.proofs.lemmas.strategies.Lookups.{all_mapped, all_right}
+use Rattle.gf_form.proofs.lemmas.strategies.Chosen.{all_mapped, all_right}
 use Rattle.gf_form.specs.inner.rows.FitsTable.{FitsTable}
 
 pub as_many : {A B : Type 0} (R : A → B → Type 0) (xs : List A) (ys : List B) → AllZip R xs ys
@@ -173,8 +173,7 @@ all_more P xs i d less h k =
 
 before_it : {A : Type 0} (P : A → Type 0) (xs : List A) (i k : ℕ) (x : A)
     → AllByRecursion P (take i xs) → k < i → slice_get xs k ≡ Some x → P x
-before_it P (y ∷ ys) (suc i) (suc k) x h less is =
-    before_it P ys i k x h.1 (omega (arith, less)) is
+before_it P (y ∷ ys) (suc i) (suc k) x h less is = before_it P ys i k x h.1 (omega (arith, less)) is
 before_it P xs i k x h less is = grind arith
 
 -- all before it hold, and it does not

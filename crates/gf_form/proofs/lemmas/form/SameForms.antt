@@ -18,7 +18,7 @@ use Common.{Game, List, Node, None, Some, Step, held, refl, true, ◌*ℤ◌, �
 use Common.{zip, ◌+◌, ◌<◌, ◌↔◌, ◌∙◌, ◌∷◌, ◌≡◌}
 use Rattle.gf_form.proofs.lemmas.values.Plays.{plays_carried, carried_step, same_payoff, AreAlike}
 use Rattle.gf_form.proofs.lemmas.values.Plays.{value_alike, on_plays, IsAlike, OnSteps, OnPlay}
-use Rattle.gf_form.proofs.lemmas.strategies.Lookups.{own_set}
+use Rattle.gf_form.proofs.lemmas.strategies.Chosen.{own_set}
 use Rattle.std.specs.Fmt.{digits}
 use Rattle.gf_fraction.specs.Offered.{gcd_within, product_of, lowest_of, number_of, sum_of}
 use Rattle.gf_token.specs.Offered.{index_of, Gap, lex}
@@ -191,8 +191,7 @@ module _ (g : Game) (r : Renumbering) (game : IsGame g) (is : IsRenumbering g r)
     -- ---- reduced strategies
 
     shown_carried : (key : SetKey) → Has (player_keys g player) key
-        → (if is_relevant h d (renumbered_set r key)
-        then Some (d (renumbered_set r key)) else None)
+        → (if is_relevant h d (renumbered_set r key) then Some (d (renumbered_set r key)) else None)
         ≡ (if is_relevant g c key then Some (c key) else None)
     shown_carried key i = grind (arith, key_used, relevant_carried, strategy_carried)
 

@@ -17,7 +17,7 @@ use Common.{List, Node, None, Play, Some, Step, Stop, Tree, more, none, refl, tr
 use Common.{has, inl, inr, map, suc, sym, ◌*◌, ◌+◌, ◌<◌, ◌∙◌, ◌∷◌, ◌≡◌, ◌≤◌, ap}
 use Rattle.gf_form.proofs.lemmas.rows.Descents.{set_there}
 use Rattle.gf_form.proofs.lemmas.rows.GameDigits.{said_there, among_own}
-use Rattle.gf_form.proofs.lemmas.strategies.Lookups.{keys_distinct, own_set, set_is, there}
+use Rattle.gf_form.proofs.lemmas.strategies.Chosen.{keys_distinct, own_set, set_is, there}
 use Rattle.gf_form.proofs.lemmas.reduced.Reducing.{first_play, is_chance, own_right, any_has}
 use Rattle.gf_form.proofs.lemmas.strategies.CountedActions.{sets_counted}
 use Rattle.gf_form.proofs.lemmas.strategies.Chosen.{his_actions}
@@ -59,8 +59,7 @@ module _ (g : Game) (game : IsGame g) (choices : SetKey → ℕ) (player : ℕ) 
   -- and elsewhere those that go on as its owner chooses
   any_below : (n : Node) (k : ℕ) (ps : List Play) → is_here n ≡ false
       → come (map (from_node n k) ps)
-      ≡ (is_own_choice choices key.player (record { node = n; taken = k })
-      && come ps)
+      ≡ (is_own_choice choices key.player (record { node = n; taken = k }) && come ps)
   any_below n k [] other = grind arith
   any_below n k (p ∷ ps) other = grind (arith, any_below n k ps other, and-or_distrib_left)
 
@@ -85,9 +84,8 @@ module _ (g : Game) (game : IsGame g) (choices : SetKey → ℕ) (player : ℕ) 
           (λ own at other. come_in ts n own (count ts) 1 children.1 at other)
 
       come_in : (ts : Trees Node) (n : Node) (own : SetKey) (m k : ℕ)
-          → AllByRecursion (HasChildren g) (flatten_all ts) → n.set ≡ Some own
-          → is_here n ≡ false → come (plays_from n k ts)
-          ≡ list_any test (descent_all g enters (enters n own m 0) k ts)
+          → AllByRecursion (HasChildren g) (flatten_all ts) → n.set ≡ Some own → is_here n ≡ false
+          → come (plays_from n k ts) ≡ list_any test (descent_all g enters (enters n own m 0) k ts)
       come_in none n own m k children at other = refl
       come_in (more t ts) n own m k children at other =
           let both = all_parts (HasChildren g) (flatten t) (flatten_all ts) children in
@@ -145,8 +143,7 @@ module _ (g : Game) (game : IsGame g) (choices : SetKey → ℕ) (player : ℕ) 
 one_factor : (a b : ℕ) → a * b ≡ 1 → (a ≡ 1) × (b ≡ 1)
 one_factor a b e = grind (arith, eq-one_of_dvd-one, dvd-mul_right, dvd-mul_left)
 
-all_one : (counts : List ℕ) (i : ℕ) → product counts ≡ 1 → i < length counts
-    → get_or counts i 0 ≡ 1
+all_one : (counts : List ℕ) (i : ℕ) → product counts ≡ 1 → i < length counts → get_or counts i 0 ≡ 1
 all_one (n ∷ counts) (suc i) e less =
     all_one counts i (one_factor n (product counts) e).1 (omega (arith, less))
 all_one counts i e less = grind (arith, one_factor)
@@ -166,11 +163,9 @@ module _ (g : Game) (game : IsGame g) (player : ℕ)
   alone = only_choice only one
 
   used : (key : SetKey) → Has (player_keys g player) key → Has (used_sets g.tree) key
-  used key i =
-      grind (arith, of_filter, was_used, sets_by_first_use)
+  used key i = grind (arith, of_filter, was_used, sets_by_first_use)
 
-  his_one : (own : SetKey) (set : InformationSet) → own.player ≡ player
-      → set_at g own ≡ Some set
+  his_one : (own : SetKey) (set : InformationSet) → own.player ≡ player → set_at g own ≡ Some set
       → (length set.actions ≡ 1) × (choice_at (player_keys g player) only own ≡ 1)
   his_one own set same known =
       let place = among_own g player own set same known in

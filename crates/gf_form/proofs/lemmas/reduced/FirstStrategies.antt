@@ -17,10 +17,9 @@ use Common.{reduced, AllZip, IsGame, Option, SetKey, get_or, length, Ratio, Tabl
 use Common.{shown, subst, List, None, Some, refl, take, true, zero, ◌++◌, map, set, suc, sym, zip}
 use Common.{◌*◌, ◌+◌, ◌-◌, ◌<◌, ◌↔◌, ◌∙◌, ◌∷◌, ◌≡◌, ◌≤◌}
 use Rattle.std.proofs.lemmas.List.Sums.{count_by-le-length, length-filter}
-use Rattle.gf_form.proofs.lemmas.strategies.Choices.{choice_length, at_its_place, are_choices}
-use Rattle.gf_form.proofs.lemmas.strategies.Choices.{IsChoice, place_at, place}
-use Rattle.gf_form.proofs.lemmas.strategies.Lookups.{strategy_before, keys_distinct, first_alike}
-use Rattle.gf_form.proofs.lemmas.strategies.Lookups.{all_alike, all_right}
+use Rattle.gf_form.proofs.lemmas.strategies.Chosen.{strategy_before, choice_length, keys_distinct}
+use Rattle.gf_form.proofs.lemmas.strategies.Chosen.{at_its_place, are_choices, first_alike, place}
+use Rattle.gf_form.proofs.lemmas.strategies.Chosen.{all_alike, all_right, IsChoice, place_at}
 use Rattle.gf_form.proofs.lemmas.reduced.ReducedForms.{choices_equality}
 use Rattle.gf_form.proofs.lemmas.reduced.Reducing.{reduced_same, same_values, same_row}
 use Rattle.gf_form.proofs.lemmas.strategies.StrategiesByNumber.{all_at}
@@ -72,8 +71,7 @@ module _ {K : Type 0} (same : K → K → Bool) (tells : IsEquality same) (ks : 
 -- ---- strategies by flags
 
 -- the first action at one more set
-first_there : (counts s : List ℕ) (q : ℕ) → IsChoice counts s → q < length s
-    → ¬ (get_or s q 0 ≡ 1)
+first_there : (counts s : List ℕ) (q : ℕ) → IsChoice counts s → q < length s → ¬ (get_or s q 0 ≡ 1)
     → IsChoice counts (set s q 1) × (place counts (set s q 1) < place counts s)
 first_there (count ∷ counts) (a ∷ s) zero h less other =
     let some = (at_its_place counts s h.1).0 in
@@ -90,8 +88,7 @@ first_there counts s q h less other = absurd h
 choice_kept : (relevant : SetKey → Bool) (keys : List SetKey) (s : List ℕ) (q : ℕ) (key : SetKey)
     → q < length keys → get_or (map relevant keys) q false ≡ false → relevant key ≡ true
     → choice_at keys s key ≡ choice_at keys (set s q 1) key
-choice_kept relevant (k ∷ keys) (a ∷ s) zero key less flag h =
-    grind (arith, same_set_equality)
+choice_kept relevant (k ∷ keys) (a ∷ s) zero key less flag h = grind (arith, same_set_equality)
 choice_kept relevant (k ∷ keys) (a ∷ s) (suc q) key less flag h =
     grind (arith, choice_kept relevant keys s q key)
 choice_kept relevant keys s q key less flag h = grind arith
@@ -135,8 +132,7 @@ module _ (g : Game) (game : IsGame g) (player : ℕ) where
   all = strategies g player
 
   flags_counted : (s : List ℕ) → length (relevant_sets g player s) ≡ length counts
-  flags_counted s =
-      length-map keys (is_relevant g (choice_at keys s)) ∙ sym (sets_counted g player)
+  flags_counted s = length-map keys (is_relevant g (choice_at keys s)) ∙ sym (sets_counted g player)
 
   module _ (n : ℕ) (less : n < length all) where
     abbrev s : List ℕ
@@ -161,9 +157,8 @@ module _ (g : Game) (game : IsGame g) (player : ℕ) where
       × (reduced g player (numbered g player m) ≡ reduced g player (numbered g player n))
 
   -- as one does if there is another action at a set that is not relevant
-  pub repeated : (n q : ℕ) → n < length all → q < length counts
-      → is_relevant_at g player n q ≡ false → ¬ (get_or (numbered g player n) q 0 ≡ 1)
-      → IsRepeated n
+  pub repeated : (n q : ℕ) → n < length all → q < length counts → is_relevant_at g player n q
+      ≡ false → ¬ (get_or (numbered g player n) q 0 ≡ 1) → IsRepeated n
   repeated n q less among flag other =
       let own = numbered g player n in
       let choice = is_choice n less in
@@ -199,8 +194,7 @@ module _ (g : Game) (game : IsGame g) (player : ℕ) where
   abbrev images : List (List (Option ℕ))
   images = map (reduced g player) all
 
-  image_at : (n : ℕ) → n < length all
-      → get_or images n [] ≡ reduced g player (numbered g player n)
+  image_at : (n : ℕ) → n < length all → get_or images n [] ≡ reduced g player (numbered g player n)
   image_at n less = get_or-map (reduced g player) all n [] [] less
 
   pub first_left : (numbers : List ℕ) (i : ℕ) → i < length all → AreFoundTo g player numbers i
@@ -212,9 +206,8 @@ module _ (g : Game) (game : IsGame g) (player : ℕ) where
       (image_at again.0 early ∙ again.2 ∙ sym (image_at i less)) in
       grind (arith, left, take-map, wider)
 
-  pub first_kept : (numbers next : List ℕ) (i : ℕ) → i < length all
-      → AreFoundTo g player numbers i → IsFirst g player i → next ≡ numbers ++ i ∷ []
-      → AreFoundTo g player next (i + 1)
+  pub first_kept : (numbers next : List ℕ) (i : ℕ) → i < length all → AreFoundTo g player numbers i
+      → IsFirst g player i → next ≡ numbers ++ i ∷ [] → AreFoundTo g player next (i + 1)
   first_kept numbers next i less h first is =
       let new = used_first (pointwise same_choice) choices_equality images i []
       (omega (arith, less, length-map all (reduced g player))) (λ m early same.
@@ -225,9 +218,8 @@ module _ (g : Game) (game : IsGame g) (player : ℕ) where
       grind (arith, kept, map-append, image_at, all_both, wider)
 
   -- strategies that reduce like earlier ones are left out
-  pub passed_by : (numbers : List ℕ) (i m : ℕ) → AreFoundTo g player numbers i
-      → i + m ≤ length all → ((n : ℕ) → i ≤ n → n < i + m → IsRepeated n)
-      → AreFoundTo g player numbers (i + m)
+  pub passed_by : (numbers : List ℕ) (i m : ℕ) → AreFoundTo g player numbers i → i + m ≤ length all
+      → ((n : ℕ) → i ≤ n → n < i + m → IsRepeated n) → AreFoundTo g player numbers (i + m)
   passed_by numbers i zero h within again = grind arith
   passed_by numbers i (suc m) h within again =
       let next : i + m + 1 ≡ i + suc m = omega arith in
@@ -295,20 +287,12 @@ record Reduces (g : Game) (full profile : List ℕ) : Type 0 where
 
 -- these full profiles, in place of those that they reduce to
 paid_over : (g : Game) (fulls ps : List (List ℕ)) (rows : List (List Ratio))
-    → AllZip (Reduces g) fulls ps
-    → AllZip (ArePayoffsAt g) fulls rows → AllZip (IsPaidAt g) ps rows
+    → AllZip (Reduces g) fulls ps → AllZip (ArePayoffsAt g) fulls rows → AllZip (IsPaidAt g) ps rows
 paid_over g (full ∷ fulls) (profile ∷ ps) (row ∷ rows) h k = (
   record { full = full; there = h.0.there; reduces = h.0.is; paid = k.0 },
   paid_over g fulls ps rows h.1 k.1,
 )
 paid_over g fulls ps rows h k = grind arith
-
-values_at : (g : Game) (full profile : List ℕ) → Reduces g full profile
-    → HasValues g full ↔ HasReducedValues g profile
-values_at g full profile h = (
-  λ values other there is. same_values g full other (h.is ∙ sym is) values,
-  λ values. values full h.there h.is,
-)
 
 zip_turned : {A B C : Type 0} (P : A → Type 0) (R : A → B → Type 0) (S : C → A → Type 0)
     (f : B → C) → ((x : A) (y : B) → P x → R x y → S (f y) x) → (xs : List A) (ys : List B)
@@ -371,7 +355,11 @@ module _ (g : Game) (firsts : List (List ℕ)) (numbers : List ℕ)
 
   their_values : AllZip (λ full profile. HasValues g full ↔ HasReducedValues g profile)
       (numbered_profiles g numbers) (reduced_profiles g)
-  their_values = all_so _ (values_at g)
+  their_values = all_so (λ full profile. HasValues g full ↔ HasReducedValues g profile)
+      (λ full profile h. (
+        λ values other there is. same_values g full other (h.is ∙ sym is) values,
+        λ values. values full h.there h.is,
+      ))
 
   pub reduced_values : AllByRecursion (HasValues g) (numbered_profiles g numbers)
       → AllByRecursion (HasReducedValues g) (reduced_profiles g)

@@ -42,14 +42,7 @@ is_pushed v before visits are =
     }
 
 -- what the code needs to add one visit
-pub ruleset add_steps = (
-  flag_on,
-  meets_none,
-  or-false,
-  ne_eqb,
-  get_or_default,
-  length-set,
-)
+pub ruleset add_steps = (flag_on, meets_none, or-false, ne_eqb, get_or_default, length-set)
 
 -- ---- what is left of visits if an action is chosen
 
@@ -195,9 +188,8 @@ pub record MarkedTo (level : Level) (i : ℕ) (met : List Bool) : Type 0 where
       || list_any (is_to place) (take i level.visits.items))
 
 module _ (level : Level) (i : ℕ) (met : List Bool) (before : MarkedTo level i met) where
-  pub marked_more : (next : List Bool) → i < length level.visits.items
-      → next ≡ set met (get_or level.visits.items i no_visit).set true
-      → MarkedTo level (i + 1) next
+  pub marked_more : (next : List Bool) → i < length level.visits.items → next
+      ≡ set met (get_or level.visits.items i no_visit).set true → MarkedTo level (i + 1) next
   marked_more next less is =
       let more = λ (place : ℕ). list_any_more (is_to place) level.visits.items i no_visit less in
       grind (arith, length-set, flag_on, before.counted, before.marked, more)

@@ -12,14 +12,13 @@ use Common.{map_same, contains, Decides, is_used, has_map, reduced, IsTable, dec
 use Common.{IsGame, SetKey, IfSome, Table, codes, List, None, refl, Game, Some, drop, ◌≡◌, ◌≤◌, ◌∷◌}
 use Common.{map, sym, ◌+◌, ◌∙◌, ◌↔◌, zip, Has, has, ◌<◌, ◌-◌, suc, ◌^◌, [], ap}
 use Rattle.std.proofs.lemmas.Slice.Eq.{slice_eq-Decides}
-use Rattle.gf_form.proofs.lemmas.strategies.Chosen.{strategy_there}
-use Rattle.gf_form.proofs.lemmas.strategies.Lookups.{strategy_before, there, all_mapped}
+use Rattle.gf_form.proofs.lemmas.strategies.Chosen.{strategy_before, strategy_there, every_choice}
+use Rattle.gf_form.proofs.lemmas.strategies.Chosen.{all_mapped, there}
 use Rattle.gf_form.proofs.lemmas.form.Forms.{one_strategic_form, one_form_by}
 use Rattle.gf_form.proofs.lemmas.form.Forms.{form_profiles, rows_of_form, some_form_by, table_by}
 use Rattle.gf_form.proofs.lemmas.form.Forms.{one_row, as_many, of_row, row_of}
 use Rattle.gf_form.proofs.lemmas.reduced.Reducing.{same_row}
 use Rattle.gf_form.proofs.lemmas.strategies.CountedActions.{some_strategy}
-use Rattle.gf_form.proofs.lemmas.strategies.Choices.{every_choice}
 use Rattle.gf_form.proofs.lemmas.strategies.StrategiesByNumber.{undashed_number, small_choice}
 use Rattle.gf_form.proofs.lemmas.strategies.StrategiesByNumber.{AreSmall, AreUndashed, same_joined}
 use Rattle.gf_form.proofs.lemmas.strategies.StrategiesByNumber.{digits_of}
@@ -49,8 +48,7 @@ module _ (g : Game) where
   -- a reduced strategy is what a strategy reduces to
   pub each_comes : (player : ℕ) (strategy : List (Option ℕ))
       → Contains (reduced_strategies g player) strategy
-      ↔ ((full : List ℕ) × Contains (strategies g player) full
-      × (reduced g player full ≡ strategy))
+      ↔ ((full : List ℕ) × Contains (strategies g player) full × (reduced g player full ≡ strategy))
   each_comes player strategy = (
     λ h.
         let there = has (reduced_strategies g player) strategy h in
@@ -115,18 +113,16 @@ module _ (g : Game) where
   reduced_form_profiles = grind (arith, length-map, map_same, map_twice)
 
   -- a full profile that reduces to a profile of the reduced form
-  pub some_full : (profile : List ℕ) → Contains (reduced_profiles g) profile
-      → (full : List ℕ) × Contains (full_profiles g) full
-      × (reduced_by g full ≡ reduced_at g profile)
+  pub some_full : (profile : List ℕ) → Contains (reduced_profiles g) profile → (full : List ℕ)
+      × Contains (full_profiles g) full × (reduced_by g full ≡ reduced_at g profile)
   some_full profile i =
       let one = full_of_all (players_of g) profile
       ((every_profile (reduced_counts (players_of g)) profile).0 i) in
       (one.0, (every_profile (full_counts (players_of g)) one.0).1 one.1, one.2)
 
   -- and the one to which a full profile reduces
-  pub some_reduced : (full : List ℕ) → Contains (full_profiles g) full
-      → (profile : List ℕ) × Contains (reduced_profiles g) profile
-      × (reduced_by g full ≡ reduced_at g profile)
+  pub some_reduced : (full : List ℕ) → Contains (full_profiles g) full → (profile : List ℕ)
+      × Contains (reduced_profiles g) profile × (reduced_by g full ≡ reduced_at g profile)
   some_reduced full i =
       let one = reduced_of_all (players_of g) full
       ((every_profile (full_counts (players_of g)) full).0 i) in
@@ -158,8 +154,7 @@ module _ (g : Game) where
         (row.0, λ full j e. same_row g one.0 full (one.2 ∙ sym e) row.0 row.1)),
   )
 
-pub some_reduced_label : (g : Game) → IsGame g → (player : ℕ)
-    → 0 < length (reduced_labels g player)
+pub some_reduced_label : (g : Game) → IsGame g → (player : ℕ) → 0 < length (reduced_labels g player)
 some_reduced_label g game player =
     let s = reduced_of g player 1 (omega arith) (some_strategy g game player) in
     omega (arith, s.1, s.2, length-map (reduced_strategies g player) reduced_label)
@@ -217,8 +212,7 @@ module _ (g : Game) (player : ℕ) where
 
   -- a choice for each set, and none that is large
   small_strategy : AreSmall (action_counts g player) → (strategy : List (Option ℕ))
-      → Has all strategy
-      → AllByRecursion IsSmallChoice strategy
+      → Has all strategy → AllByRecursion IsSmallChoice strategy
       × (length strategy ≡ length (player_keys g player))
   small_strategy small strategy h =
       let from = (each_comes g player strategy).0 (contains all strategy h) in
@@ -232,9 +226,8 @@ module _ (g : Game) (player : ℕ) where
         length-map keys (λ key. if is_relevant g choice key then Some (choice key) else None),
       )
 
-  pub labels_differ : (i j : ℕ) → AreSmall (action_counts g player) → i < length all
-      → j < length all
-      → reduced_label (get_or all i []) ≡ reduced_label (get_or all j []) → i ≡ j
+  pub labels_differ : (i j : ℕ) → AreSmall (action_counts g player) → i < length all → j
+      < length all → reduced_label (get_or all i []) ≡ reduced_label (get_or all j []) → i ≡ j
   labels_differ i j small hi hj e =
       let s = get_or all i [] in
       let t = get_or all j [] in
@@ -248,8 +241,7 @@ module _ (g : Game) where
   one_profile_of : (players p q : List ℕ) → IsProfile (reduced_counts g players) p
       → IsProfile (reduced_counts g players) q
       → map (λ r. strategy_at (reduced_strategies g r.0) r.1) (zip players p)
-      ≡ map (λ r. strategy_at (reduced_strategies g r.0) r.1) (zip players q)
-      → p ≡ q
+      ≡ map (λ r. strategy_at (reduced_strategies g r.0) r.1) (zip players q) → p ≡ q
   one_profile_of (player ∷ players) (s ∷ p) (t ∷ q) hp hq e =
       let once = each_once g player (s - 1) (t - 1) in
       grind (arith, once, strategy_before, one_profile_of players p q hp.1 hq.1 (ap (drop 1) e))

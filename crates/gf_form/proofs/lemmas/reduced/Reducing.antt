@@ -12,7 +12,7 @@ use Common.{or_left, reduced, AddsTo, AllZip, Option, SetKey, agrees, branch, ge
 use Common.{payoff, arith, false, plays, subst, total, Bool, Game, List, Node, None, Play, Some, ap}
 use Common.{Step, Tree, drop, more, none, refl, true, zero, ◌==◌, ◌||◌, Has, has, inl, inr, map}
 use Common.{not, suc, sym, zip, ◌+◌, ◌-◌, ◌<◌, ◌↔◌, ◌∙◌, ◌∷◌, ◌≡◌}
-use Rattle.gf_form.proofs.lemmas.strategies.Lookups.{strategy_before, own_set}
+use Rattle.gf_form.proofs.lemmas.strategies.Chosen.{strategy_before, own_set}
 use Rattle.gf_form.proofs.lemmas.values.BottomUp.{payoff_is, share}
 
 -- ---- tests
@@ -310,9 +310,8 @@ module _ (g : Game) (p q : List ℕ) (e : reduced_by g p ≡ reduced_by g q) whe
   same_row row = transport (λ i. AllZip (λ paid player. IsFraction paid
       × IsEqual paid (reduced_pay g player p q e i)) row (players_of g))
 
-pub reduced_value : (g : Game) (player : ℕ) (p q : List ℕ) (value : Ratio)
-    → reduced_by g p ≡ reduced_by g q
-    → IsValue g (choices_by g (strategies_at g p)) player g.tree value
+pub reduced_value : (g : Game) (player : ℕ) (p q : List ℕ) (value : Ratio) → reduced_by g p
+    ≡ reduced_by g q → IsValue g (choices_by g (strategies_at g p)) player g.tree value
     ↔ IsValue g (choices_by g (strategies_at g q)) player g.tree value
 reduced_value g player p q value e =
     let same = same_value g p q e player in

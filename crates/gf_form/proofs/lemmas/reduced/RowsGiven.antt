@@ -16,7 +16,7 @@ use Rattle.gf_form.proofs.lemmas.reduced.LevelsChosen.{no_visit}
 use Rattle.gf_form.specs.declared.reduced.labels.Relevance.{Relevance}
 use Rattle.gf_form.proofs.lemmas.reduced.Searches.{steps_positive, chosen_here, count_some}
 use Rattle.gf_form.proofs.lemmas.reduced.Searches.{each_some}
-use Rattle.gf_form.proofs.lemmas.strategies.Choices.{length-all_choices, long}
+use Rattle.gf_form.proofs.lemmas.strategies.Chosen.{length-all_choices, long}
 use Rattle.gf_form.proofs.lemmas.strategies.StrategiesByNumber.{all_at}
 use Rattle.gf_form.proofs.lemmas.reduced.FirstStrategies.{reduced_shown_at, flags_fit}
 
@@ -49,9 +49,8 @@ free_met place step action steps choices (v ∷ visits) h =
     grind (arith, free_met place step action steps choices visits h.1)
 
 all_below : (visits : List Visit) (step : ℕ) (last : Visit)
-    → IsNonDecreasingBy (λ v. v.demands) visits
-    → slice_get visits (length visits - 1) ≡ Some last → last.demands < step
-    → AllByRecursion (λ v. v.demands < step) visits
+    → IsNonDecreasingBy (λ v. v.demands) visits → slice_get visits (length visits - 1) ≡ Some last
+    → last.demands < step → AllByRecursion (λ v. v.demands < step) visits
 all_below visits step last up is less =
     recursion_from_All (λ (v : Visit). v.demands < step) visits
     (All-from_get_or (λ (v : Visit). v.demands < step) visits no_visit (λ k inside.
@@ -67,9 +66,8 @@ module _ {g : Game} {player count : ℕ} {d : OwnDigit} {faster : List OwnDigit}
 
   pub told_free : (all ordered : List Found) (last : Visit)
       → AreTold g player (d ∷ faster) numbers level all
-      → slice_get level.visits.items (length level.visits.items - 1) ≡ Some last
-      → last.demands < d.step → IsPermutation all ordered
-      → AreTold g player faster numbers level ordered
+      → slice_get level.visits.items (length level.visits.items - 1) ≡ Some last → last.demands
+      < d.step → IsPermutation all ordered → AreTold g player faster numbers level ordered
   told_free all ordered last told is less same = record {
     levelled = told.levelled;
     each = all_weaker (IsTold g player (d ∷ faster) numbers level)
@@ -162,12 +160,10 @@ module _ {g : Game} {player : ℕ} {numbers : List ℕ} where
 
   pub next_given : {digits : List OwnDigit} {level : Level} {all : List Found}
       → IsPlain digits level → AreTold g player digits numbers level all
-      → (before r after : Relevance) (i row : ℕ) → i < length all
-      → length before.row_of.items ≡ length numbers
-      → AreGiven g player numbers before r (take i all) → after.rows ≡ r.rows
-      → after.row_of.items ≡ set r.row_of.items (get_or all i no_found).place row
-      → row < length r.rows.items
-      → Marks level (get_or (map (λ row. row.items) r.rows.items) row [])
+      → (before r after : Relevance) (i row : ℕ) → i < length all → length before.row_of.items
+      ≡ length numbers → AreGiven g player numbers before r (take i all) → after.rows ≡ r.rows
+      → after.row_of.items ≡ set r.row_of.items (get_or all i no_found).place row → row
+      < length r.rows.items → Marks level (get_or (map (λ row. row.items) r.rows.items) row [])
       → AreGiven g player numbers before after (take (i + 1) all)
   next_given {digits} {level} {all} plain told before r after i row less room given same next there
       marks =

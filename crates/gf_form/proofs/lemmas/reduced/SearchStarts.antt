@@ -18,30 +18,27 @@ use Rattle.gf_form.proofs.lemmas.reduced.Searches.{place_inside}
 use Rattle.gf_form.proofs.lemmas.reduced.RowsGiven.{no_found}
 use Rattle.gf_form.proofs.lemmas.rows.GameDigits.{choice_at_number, product_picked, width_fits}
 use Rattle.gf_form.proofs.lemmas.rows.GameDigits.{picked_at}
-use Rattle.gf_form.proofs.lemmas.strategies.Choices.{length-all_choices, choice_length}
+use Rattle.gf_form.proofs.lemmas.strategies.Chosen.{length-all_choices, choice_length}
 use Rattle.gf_form.proofs.lemmas.strategies.CountedActions.{actions_positive, sets_counted}
 use Rattle.gf_form.proofs.lemmas.strategies.CountedActions.{take_past}
 use Rattle.gf_form.proofs.lemmas.strategies.StrategiesByNumber.{all_at}
 
 -- the digits so far and those to come
-pub digit_more : (counts steps : List ℕ) (i step : ℕ) (made next : List OwnDigit)
-    → steps ≡ steps_after 1 counts → i < length counts → 1 < get_or counts i 0
-    → step ≡ get_or steps i 0
-    → next ≡ made ++ record { place = i; step = step; actions = get_or counts i 0 } ∷ []
-    → made ++ digits_with i (drop i counts) (drop i steps) ≡ digits_with 0 counts steps
-    → next ++ digits_with (i + 1) (drop (i + 1) counts) (drop (i + 1) steps)
-    ≡ digits_with 0 counts steps
+pub digit_more : (counts steps : List ℕ) (i step : ℕ) (made next : List OwnDigit) → steps
+    ≡ steps_after 1 counts → i < length counts → 1 < get_or counts i 0 → step ≡ get_or steps i 0
+    → next ≡ made ++ record { place = i; step = step; actions = get_or counts i 0 } ∷ [] → made
+    ++ digits_with i (drop i counts) (drop i steps) ≡ digits_with 0 counts steps → next
+    ++ digits_with (i + 1) (drop (i + 1) counts) (drop (i + 1) steps) ≡ digits_with 0 counts steps
 digit_more counts steps i step made next are less several step_is is before =
     let long : i < length steps = omega (arith, ap length are, steps_long 1 counts) in
     let count = next_is counts i (get_or counts i 0) 0 less refl in
     let there = next_is steps i step 0 long step_is in
     grind (arith, append_assoc, count, there)
 
-pub digit_past : (counts steps : List ℕ) (i : ℕ) (made next : List OwnDigit)
-    → steps ≡ steps_after 1 counts → i < length counts → get_or counts i 0 ≤ 1 → next ≡ made
-    → made ++ digits_with i (drop i counts) (drop i steps) ≡ digits_with 0 counts steps
-    → next ++ digits_with (i + 1) (drop (i + 1) counts) (drop (i + 1) steps)
-    ≡ digits_with 0 counts steps
+pub digit_past : (counts steps : List ℕ) (i : ℕ) (made next : List OwnDigit) → steps
+    ≡ steps_after 1 counts → i < length counts → get_or counts i 0 ≤ 1 → next ≡ made → made
+    ++ digits_with i (drop i counts) (drop i steps) ≡ digits_with 0 counts steps → next
+    ++ digits_with (i + 1) (drop (i + 1) counts) (drop (i + 1) steps) ≡ digits_with 0 counts steps
 digit_past counts steps i made next are less one is before =
     let long : i < length steps = omega (arith, ap length are, steps_long 1 counts) in
     let count = next_is counts i (get_or counts i 0) 0 less refl in
@@ -70,9 +67,8 @@ steps_from : (p : ℕ) (counts : List ℕ)
 steps_from p [] = refl
 steps_from p (n ∷ counts) = grind (arith, steps_from (p + 1) counts)
 
-places_from : (all rest : List ℕ) (p : ℕ) (counts : List ℕ) → drop p all ≡ rest
-    → length rest ≡ length counts
-    → map (λ d. get_or all d.place 0) (digits_from p counts) ≡ picked counts rest
+places_from : (all rest : List ℕ) (p : ℕ) (counts : List ℕ) → drop p all ≡ rest → length rest
+    ≡ length counts → map (λ d. get_or all d.place 0) (digits_from p counts) ≡ picked counts rest
 places_from all rest p [] is long = grind arith
 places_from all [] p (n ∷ counts) is long = absurd (omega (arith, long))
 places_from all (x ∷ rest) p (n ∷ counts) is long =

@@ -15,7 +15,7 @@ use Rattle.gf_form.specs.declared.reduced.first.Player.{Player}
 use Rattle.gf_form.proofs.lemmas.strategies.StrategiesByNumber.{choices_next}
 use Rattle.gf_form.proofs.lemmas.rows.GameDigits.{choice_at_number}
 use Rattle.gf_form.proofs.lemmas.strategies.CountedActions.{product_positive, action_within}
-use Rattle.gf_form.proofs.lemmas.strategies.Choices.{length-all_choices, long}
+use Rattle.gf_form.proofs.lemmas.strategies.Chosen.{length-all_choices, long}
 use Rattle.gf_form.proofs.lemmas.reduced.FirstStrategies.{IsRepeated, passed_by, repeated}
 use Rattle.gf_form.proofs.lemmas.rows.Digits.{next_is}
 
@@ -119,9 +119,8 @@ module _ {p : Player} {d : OwnDigit} {faster : List OwnDigit} {level : Level}
   row_end : (before : ℕ) → before < d.actions → before * row + row ≤ count
   row_end before less = grind (arith, rows_are below.turn, mul-le-mul_right)
 
-  chosen_there : (before n : ℕ) → before < d.actions → number + before * row ≤ n
-      → n < number + before * row + row
-      → get_or (numbered p.game.now p.number n) d.place 0 ≡ before + 1
+  chosen_there : (before n : ℕ) → before < d.actions → number + before * row ≤ n → n < number
+      + before * row + row → get_or (numbered p.game.now p.number n) d.place 0 ≡ before + 1
   chosen_there before n less from to =
       let end = row_end before less in
       let here = chosen_here below.turn n (omega (arith, to, end, below.end)) in
@@ -164,21 +163,16 @@ unmet_by : (place : ℕ) (steps choices : List ℕ) (visits : List Visit)
     → list_any (λ (v : Visit). v.set == place) visits ≡ false
     → is_met place steps choices visits ≡ false
 unmet_by place steps choices [] e = refl
-unmet_by place steps choices (v ∷ visits) e =
-    grind (arith, unmet_by place steps choices visits)
+unmet_by place steps choices (v ∷ visits) e = grind (arith, unmet_by place steps choices visits)
 
 unmet_left : (place : ℕ) (steps choices : List ℕ) (level : Level)
     → can_be_met place level ≡ false → is_left place steps choices level ≡ false
 unmet_left place steps choices level e = grind (arith, unmet_by)
 
 -- with no digit left, each visit comes about
-met_all : (place : ℕ) (visits : List Visit) → is_met place [] [] visits
-    ≡ list_any (λ (v : Visit). v.set == place) visits
-met_all place visits = λ i. list_any (λ (v : Visit). and-true (v.set == place) i) visits
-
 pub left_all : (place : ℕ) (level : Level) → is_left place [] [] level ≡ can_be_met place level
-left_all place level =
-    ap (λ b. get_or level.known.items place false || b) (met_all place level.visits.items)
+left_all place level = λ i. get_or level.known.items place false
+    || list_any (λ (v : Visit). and-true (v.set == place) i) level.visits.items
 
 -- ---- digits
 

@@ -10,10 +10,10 @@ use Common.{width, Bool, Game, List, None, Some, Stop, kept, refl, true, ◌==�
 use Common.{◌≤◌, []}
 use Rattle.gf_form.proofs.lemmas.rows.Digits.{none_within, no_demands, none_pack, none_met}
 use Rattle.gf_form.proofs.lemmas.rows.Digits.{are_digits}
-use Rattle.gf_form.proofs.lemmas.strategies.Lookups.{zip_at, keys_distinct, own_set}
+use Rattle.gf_form.proofs.lemmas.strategies.Chosen.{zip_at, keys_distinct, own_set}
 use Rattle.gf_form.proofs.lemmas.reduced.Coming.{relevant_is}
 use Rattle.gf_form.proofs.lemmas.rows.GameDigits.{IsAmong, among_own, said_there}
-use Rattle.gf_form.proofs.lemmas.rows.Descents.{AreFreed, tree_kept}
+use Rattle.gf_form.proofs.lemmas.rows.Descents.{tree_kept}
 
 -- ---- places
 
@@ -47,10 +47,6 @@ no_visit g player mover demands key his other = grind arith
 pub ruleset survey_steps = (visit_there, no_visit)
 
 -- ---- the visits whose demands are met
-
--- the same without demands
-visits_freed : (g : Game) → AreFreed g visit_handing (λ _. 0)
-visits_freed g = record { demands_are = λ n s k d. refl; below_freed = λ n s k d. refl }
 
 module _ (player place : ℕ) (steps choices : List ℕ) where
   abbrev pub is_at : Stop ℕ → Bool
@@ -136,7 +132,8 @@ module _ (g : Game) (game : IsGame g) (player : ℕ) where
         let met = all_met player place own choices
         (descent g (demanding visit_handing g (own_step g player all)) 0 g.tree) in
         let left = tree_kept (own_digits_are all are fits strategy chosen) visit_handing
-        (λ _. 0) (visits_freed g) g.tree game.children 0 (no_demands (picked counts counts))
+        (λ _. 0) (record { demands_are = λ n s k d. refl; below_freed = λ n s k d. refl }) g.tree
+        game.children 0 (no_demands (picked counts counts))
         (sym (none_pack (picked counts counts)), none_within (picked counts counts)) in
         let is_relevant = relevant_is g game (choice_at keys strategy) player key
         (is_his place key there) (is_at player place own choices)

@@ -14,8 +14,7 @@ use Rattle.gf_form.proofs.lemmas.rows.MergedTerms.{come_to_both, other_unmet, co
 use Rattle.gf_form.proofs.lemmas.rows.MergedTerms.{raised_met, sum_append, free_met, IsOther, IsOwn}
 use Rattle.gf_form.proofs.lemmas.rows.MergedTerms.{IsFree}
 use Rattle.gf_form.proofs.lemmas.rows.Digits.{spans_above}
-use Rattle.gf_form.proofs.lemmas.rows.FlatRows.{terms_count}
-use Rattle.gf_form.proofs.lemmas.rows.Merges.{lowered_none, range, cut}
+use Rattle.gf_form.proofs.lemmas.rows.FlatRows.{lowered_none, terms_count, range, cut}
 use Rattle.gf_form.proofs.lemmas.rows.PairRows.{free_met as zero_met}
 
 -- ---- by way of others

@@ -11,7 +11,7 @@ use Common.{eq-eqb, get_or, length, set_at, Trees, arith, below, count, false, m
 use Common.{Bool, Game, List, Node, None, Some, Stop, Tree, kept, more, none, refl, true, ◌&&◌, map}
 use Common.{◌++◌, ◌==◌, ◌||◌, not, set, suc, sym, ◌%◌, ◌*◌, ◌+◌, ◌^◌, ◌∙◌, ◌∷◌, ◌≡◌, ◌≤◌, [], ap}
 use Rattle.gf_form.proofs.lemmas.values.Walks.{trees_of_list, choice_there, choice_is}
-use Rattle.gf_form.proofs.lemmas.strategies.Lookups.{keys_distinct}
+use Rattle.gf_form.proofs.lemmas.strategies.Chosen.{keys_distinct}
 use Rattle.gf_tree.specs.declared.game.branch.Branch.{Branch}
 use Rattle.gf_tree.specs.declared.game.branches.Branches.{Branches}
 use Rattle.gf_form.specs.declared.rows.descent.Open.{Open}
@@ -211,8 +211,7 @@ module _ {g : Game} {owns : SetKey → Bool} {steps choose : SetKey → ℕ} {ac
         let d = h.demands s in
         let own = tree (h.below g n s k d) ds (laws.demands_are n s k d ∙ has.0, has.1) in
         grind (arith, laws.below_freed, led.leads)
-    child_kept t n s ds step action k comes false false tree has led e f =
-        grind (arith, led.leads)
+    child_kept t n s ds step action k comes false false tree has led e f = grind (arith, led.leads)
 
     node_kept : (n : Node) (ts : Trees Node) (s : S) (ds : List ℕ) (o : Option SetKey)
         (below beneath : SetKey → List (Stop S)) → HasDigits s ds → MatchOption o (count ts ≡ 0)

@@ -268,8 +268,7 @@ pub digit_more : (n values more : ℕ) (later : List ℕ) (old new : List Digit)
     → more ≡ values * (n + 1) → more < 2 ^ 64 → new ≡ record { step = values; actions = n } ∷ old
     → AreDigitsOf later old values → AreDigitsOf (n ∷ later) new more
     × (steps_after 1 (n ∷ later) ≡ values ∷ steps_after 1 later)
-digit_more n values more later old new some more_is fits new_is are =
-    grind (arith, mul_comm)
+digit_more n values more later old new some more_is fits new_is are = grind (arith, mul_comm)
 
 pub digit_same : (n values : ℕ) (later : List ℕ) (old : List Digit) → n ≤ 1
     → AreDigitsOf later old values → AreDigitsOf (n ∷ later) old values

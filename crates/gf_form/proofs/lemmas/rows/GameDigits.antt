@@ -11,8 +11,8 @@ use Common.{in_order, mul_comm, same_set, take-map, add-one, product, Counts, Di
 use Common.{SetKey, eq-eqb, get_or, length, mod-lt, picked, set_at, subst, width, Game, List, Some}
 use Common.{cond, find, refl, take, true, zero, ◌++◌, map, suc, sym, ◌%◌, ◌*◌, ◌+◌, ◌-◌, ◌/◌, ◌<◌}
 use Common.{◌^◌, ◌∙◌, ◌∣◌, ◌∷◌, ◌≡◌, ◌≤◌, [], ap}
-use Rattle.gf_form.proofs.lemmas.strategies.Choices.{length-all_choices, are_choices, IsChoice}
-use Rattle.gf_form.proofs.lemmas.strategies.Choices.{long}
+use Rattle.gf_form.proofs.lemmas.strategies.Chosen.{length-all_choices, strategy_before, IsChoice}
+use Rattle.gf_form.proofs.lemmas.strategies.Chosen.{keys_distinct, are_choices, set_is, long}
 use Rattle.gf_form.proofs.lemmas.strategies.CountedActions.{strategies_positive, actions_positive}
 use Rattle.gf_form.proofs.lemmas.strategies.CountedActions.{product_positive, as_many_players}
 use Rattle.gf_form.proofs.lemmas.strategies.CountedActions.{strategy_counts, product_within}
@@ -25,7 +25,6 @@ use Rattle.gf_form.proofs.lemmas.strategies.StrategiesByNumber.{positive_parts, 
 use Rattle.gf_form.proofs.lemmas.strategies.StrategiesByNumber.{joined_at, all_at}
 use Rattle.gf_form.proofs.lemmas.strategies.Chosen.{profile_strategies, nothing_chosen, among_his}
 use Rattle.gf_form.proofs.lemmas.strategies.Chosen.{have_actions}
-use Rattle.gf_form.proofs.lemmas.strategies.Lookups.{strategy_before, keys_distinct, set_is}
 use Rattle.gf_form.proofs.lemmas.values.Walks.{choice_there}
 
 -- ---- the choices of the profile with a number
@@ -67,11 +66,7 @@ width_square : (counts : List ℕ) → ArePositive counts
 width_square [] h = omega arith
 width_square (suc (suc n) ∷ counts) h =
     let more : suc (suc n) + 1 ≤ suc (suc n) * suc (suc n) = grind arith in
-    omega (
-      arith,
-      mul-le-mul more (width_square counts h.1),
-      turned (suc (suc n)) (product counts),
-    )
+    omega (arith, mul-le-mul more (width_square counts h.1), turned (suc (suc n)) (product counts))
   where
     turned : (a p : ℕ) → a * a * (p * p) ≡ a * p * (a * p)
     turned a p = grind arith
@@ -86,8 +81,7 @@ width_fits counts h few = grind (arith, width_square, mul-le-mul)
 pub product_in_order : (counts : List (List ℕ))
     → product (in_order counts) ≡ product (map product counts)
 product_in_order [] = refl
-product_in_order (own ∷ others) =
-    grind (arith, product_joined, mul_comm, product_in_order others)
+product_in_order (own ∷ others) = grind (arith, product_joined, mul_comm, product_in_order others)
 
 -- the number of a player's strategy, and what is left of the number for those after him
 left : (own others number : ℕ) → number < own * others → (number % own < own)
@@ -131,8 +125,7 @@ choice_by_stride (n ∷ counts) number (suc i) less within =
     let divides = stride_divides counts i there in
     let step = get_or (strides_of counts) i 0 in
     let c = get_or counts i 0 in
-    let above : 0 < step =
-    (positive_parts step c 0 (pos_of_dvd_of_pos divides parts.1)).0 in
+    let above : 0 < step = (positive_parts step c 0 (pos_of_dvd_of_pos divides parts.1)).0 in
     let later = choice_by_stride counts (number % p) i (mod-lt number parts.1) there in
     let same = faster_part (number / p) p (number % p) step c above divides in
     let whole : number / p * p + number % p ≡ number = omega (arith, mod-add-div number p) in

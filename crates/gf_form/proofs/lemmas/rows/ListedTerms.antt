@@ -10,7 +10,7 @@ use Common.{number_at, IsShaped, all_both, take-add, *ℤ-zero, ArePaid, IsSumOf
 use Common.{zero-*ℤ, add-*ℤ, get_or, length, pay_at, sum_by, Tells, Terms, arith, false, meets, suc}
 use Common.{subst, Bool, Game, List, Path, Term, drop, ints, refl, take, true, zero, ◌*ℤ◌, ◌++◌, ap}
 use Common.{◌+ℤ◌, ◌==◌, sym, ◌*◌, ◌+◌, ◌-◌, ◌/◌, ◌<◌, ◌∙◌, ◌∣◌, ◌∷◌, ◌≡◌, ◌≤◌, ℤ}
-use Rattle.gf_form.proofs.lemmas.rows.Merges.{ordered_more, below_more, all_in}
+use Rattle.gf_form.proofs.lemmas.rows.FlatRows.{ordered_more, below_more, all_in}
 use Rattle.gf_form.proofs.lemmas.rows.MergedTerms.{size_append, sum_append, both_come, come_both}
 use Rattle.gf_form.proofs.lemmas.rows.MergedTerms.{come_none, same_come, scaled}
 use Rattle.std.specs.List.Retain.{DedupsFrom, IsDeduped}
@@ -66,8 +66,7 @@ nodes_told g k den steps choices rs e alike says exact =
     es = node_terms g (suc k) rs
 
     same : AllByRecursion (λ (f : Term). f.head.demands ≡ e.head.demands) es
-    same =
-        all_images (λ (f : Term). f.head.demands ≡ e.head.demands) (node_term g (suc k)) rs alike
+    same = all_images (λ (f : Term). f.head.demands ≡ e.head.demands) (node_term g (suc k)) rs alike
 
     by : (b : Bool) → meets steps choices e.head.demands ≡ b
         → Tells g k den steps choices rs (e ∷ [])

@@ -244,8 +244,7 @@ module _ (den : ℕ) (steps choices others_steps others_choices : List ℕ) (P :
       → (es : List Term) → AllByRecursion P es
       → ComeTo den steps choices es others_steps others_choices []
   come_none unmet [] all = record { exact = tt; sums = λ k. refl }
-  come_none unmet (e ∷ es) all =
-      grind (arith, false≢true, unmet e all.0, come_none unmet es all.1)
+  come_none unmet (e ∷ es) all = grind (arith, false≢true, unmet e all.0, come_none unmet es all.1)
 
 -- ---- a term in place of two
 

@@ -18,7 +18,7 @@ use Rattle.gf_form.specs.declared.rows.pairs.Pair.{Pair}
 use Rattle.gf_form.proofs.lemmas.rows.Digits.{spans_above}
 use Rattle.gf_form.proofs.lemmas.rows.FlatRows.{all_by_place, terms_count, there}
 use Rattle.gf_form.proofs.lemmas.rows.MergedTerms.{sum_append}
-use Rattle.gf_form.proofs.lemmas.rows.Merges.{chosen_parts, part_next, part_past}
+use Rattle.gf_form.proofs.lemmas.rows.FlatRows.{chosen_parts, part_next, part_past}
 use Rattle.gf_form.proofs.lemmas.strategies.PickedProfiles.{numbered_at}
 use Rattle.gf_form.proofs.lemmas.values.BottomUp.{are_payoffs, have_values}
 

@@ -15,7 +15,7 @@ use Rattle.gf_fraction.proofs.Offered.{*ℤ_right_comm}
 use Rattle.gf_form.specs.inner.rows.Paying.{SettleAsWell, sizes_of, FitOver, IsOver, Kept}
 use Rattle.gf_form.proofs.lemmas.rows.FlatRows.{terms_count}
 use Rattle.gf_form.proofs.lemmas.rows.MergedTerms.{none_first, sum_append, come_both, same_come}
-use Rattle.gf_form.proofs.lemmas.rows.Merges.{lowered_none, ordered_more, skips, waits}
+use Rattle.gf_form.proofs.lemmas.rows.FlatRows.{lowered_none, ordered_more, skips, waits}
 use Rattle.gf_form.proofs.lemmas.strategies.StrategiesByNumber.{all_at}
 use Rattle.gf_form.proofs.lemmas.values.ValuesComputed.{empty_row}
 use Rattle.gf_form.proofs.lemmas.rows.ListedTerms.{terms_of_sums, no_number}
@@ -79,9 +79,6 @@ kept_next es left e f demands numbers den before = record {
       (den ∙ parts.1.0, tt);
 }
 
-kept_more : (es left : List Term) (e : Term) → Kept es left → Kept (es ++ e ∷ []) (left ++ e ∷ [])
-kept_more es left e = kept_next es left e e refl (λ k. refl) refl
-
 kept_zero : (es left : List Term) (e : Term) → ((k : ℕ) → number_at (suc k) e ≡ pos 0)
     → Kept es left → Kept (es ++ e ∷ []) left
 kept_zero es left e none before = record {
@@ -140,7 +137,8 @@ module _ (from : Terms) (i : ℕ) (left : Terms) (sorted : AreOrdered from)
   more_paying after is alike shaped =
       let t = lowered 0 (term_at from i) in record {
         kept = rw (one_more, is, lowered_none (term_at from i))
-            (kept_more (first_terms from i) (all_terms left) (term_at from i) before.kept);
+            (kept_next (first_terms from i) (all_terms left) (term_at from i) (term_at from i) refl
+            (λ k. refl) refl before.kept);
         alike = (alike.0 ∙ before.alike.0, alike.1 ∙ before.alike.1);
         order = (shaped, ordered_more left after t is before.order.1 (before.may.rises less));
         may = skips sorted (waits left after t is before.may (λ _. omega arith)) less;

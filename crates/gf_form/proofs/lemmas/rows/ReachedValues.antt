@@ -25,7 +25,7 @@ use Rattle.gf_form.proofs.lemmas.values.ValuesComputed.{zero_fraction, chance_si
 use Rattle.gf_form.proofs.lemmas.values.ValuesComputed.{times_zero, plus_zero, zero_plus, zero_is}
 use Rattle.gf_form.proofs.lemmas.rows.Digits.{none_within, no_demands, none_pack, none_met}
 use Rattle.gf_form.proofs.lemmas.values.Walks.{paid_is}
-use Rattle.gf_form.proofs.lemmas.rows.Descents.{set_there, tree_kept, AreFreed}
+use Rattle.gf_form.proofs.lemmas.rows.Descents.{set_there, tree_kept}
 
 -- ---- integers
 
@@ -35,8 +35,7 @@ mul-plus a b c = *ℤ_comm a (b +ℤ c) ∙ add-*ℤ b c a ∙ (λ i. *ℤ_comm 
 -- a number whose size times another one is within bounds
 within_part : (z : ℤ) (b limit : ℕ) → 1 ≤ b → unsigned_abs z * b ≤ limit → limit < 2 ^ 127
     → IsWithin z
-within_part z b limit some le h =
-    omega (arith, le, h, le-mul_of_pos_right (unsigned_abs z) some)
+within_part z b limit some le h = omega (arith, le, h, le-mul_of_pos_right (unsigned_abs z) some)
 
 sum_below : (x y : ℤ) (b : ℕ) → unsigned_abs (x +ℤ y) * b ≤ unsigned_abs x * b + unsigned_abs y * b
 sum_below x y b = omega (arith, mul-le-mul_right b (sum_size x y))
@@ -418,10 +417,6 @@ module _ (g : Game) (game : IsGame g) (spellable : IsSpellable g) (choose : SetK
 abbrev freed : Path → Path
 freed path = demanding_path path 0
 
-paths_freed : (g : Game) → AreFreed g path_handing freed
-paths_freed g =
-    record { demands_are = λ n path k d. grind arith; below_freed = λ n path k d. grind arith }
-
 -- what the nodes that are met come to
 module _ (g : Game) (player den : ℕ) (steps choices : List ℕ) where
   abbrev terms : List (Stop Path) → List Term
@@ -455,8 +450,10 @@ pub reached_value : (g : Game) → IsGame g → IsSpellable g → (steps choose 
 reached_value g game spellable steps choose actions choices digits player den fits =
     let vs = descent g (demanding path_handing g steps) root_path g.tree in
     let fs = descent g (choosing path_handing g is_personal choose) root_path g.tree in
-    let left = tree_kept digits path_handing freed (paths_freed g) g.tree game.children root_path
-    (no_demands actions) (sym (none_pack actions), none_within actions) in
+    let left = tree_kept digits path_handing freed
+    (record { demands_are = λ n path k d. grind arith; below_freed = λ n path k d. grind arith })
+    g.tree game.children root_path (no_demands actions)
+    (sym (none_pack actions), none_within actions) in
     let same : met_stops g player den (steps_of actions) choices vs ≡ fs =
     grind (arith, none_met) in
     let whole = valued g game spellable choose digits.chosen player den g.tree root_path

@@ -11,8 +11,8 @@ use Common.{IsSet, arith, subst, List, None, Some, refl, take, zero, ◌++◌, �
 use Common.{◌+◌, ◌<◌, ◌∙◌, ◌∷◌, ◌≡◌, ◌≤◌, [], ap, ℕ}
 use Rattle.gf_form.proofs.lemmas.rows.Digits.{product_joined}
 pub use Rattle.std.proofs.lemmas.List.{take_all as take_past}
-use Rattle.gf_form.proofs.lemmas.strategies.Choices.{length-all_choices, IsChoice}
-use Rattle.gf_form.proofs.lemmas.strategies.Lookups.{zip_by_places, zip_in_turn, all_mapped, zip_at}
+use Rattle.gf_form.proofs.lemmas.strategies.Chosen.{length-all_choices, IsChoice}
+use Rattle.gf_form.proofs.lemmas.strategies.Chosen.{zip_by_places, zip_in_turn, all_mapped, zip_at}
 
 -- ---- products
 
@@ -55,8 +55,7 @@ count_at g player before = grind (arith, add-one, unwrap_or-slice_get)
 
 pub positive_at : (counts : List ℕ) (i : ℕ) → ArePositive counts → i < length counts
     → 0 < get_or counts i 0
-positive_at counts i h less =
-    grind (arith, All-get_or, All-from_recursion)
+positive_at counts i h less = grind (arith, All-get_or, All-from_recursion)
 
 -- a player's set, by its number
 his_set : (g : Game) → IsGame g → (player : ℕ) (s : Known) (k : ℕ)

@@ -7,9 +7,8 @@ use Common.{full_profiles, numbers_from, all_choices, mod-add-div, strategy_at, 
 use Common.{get_or-map, length-map, strategies, AreCounts, ArePicked, positions, AreBelow, IsPicked}
 use Common.{flat_map, mul_comm, profiles, product, AllZip, Counts, get_or, length, Game, List, drop}
 use Common.{refl, zero, map, suc, sym, zip, ◌%◌, ◌*◌, ◌+◌, ◌/◌, ◌<◌, ◌∙◌, ◌∷◌, ◌≡◌, [], ap}
-use Rattle.gf_form.proofs.lemmas.strategies.Lookups.{zip_by_places, all_in_turn, zip_flat, in_turn}
-use Rattle.gf_form.proofs.lemmas.strategies.Lookups.{row_at}
-use Rattle.gf_form.proofs.lemmas.strategies.Choices.{length-all_choices}
+use Rattle.gf_form.proofs.lemmas.strategies.Chosen.{length-all_choices, zip_by_places, all_in_turn}
+use Rattle.gf_form.proofs.lemmas.strategies.Chosen.{zip_flat, in_turn, row_at}
 use Rattle.gf_form.proofs.lemmas.strategies.StrategiesByNumber.{positive_parts, all_at}
 
 -- ---- the profile with a number

@@ -11,11 +11,11 @@ use Common.{subst, Bool, List, None, Some, drop, refl, take, true, zero, ◌++�
 use Common.{◌%◌, ◌*◌, ◌+◌, ◌/◌, ◌<◌, ◌^◌, ◌∙◌, ◌∷◌, ◌≡◌, ◌≤◌, ap, ℕ}
 use Rattle.gf_token.specs.LabelSpelling.{is_spelling_after, IsLabel}
 use Rattle.gf_form.proofs.lemmas.strategies.CountedActions.{take_past}
-use Rattle.gf_form.proofs.lemmas.strategies.Choices.{length-all_choices, choices_distinct, IsChoice}
-use Rattle.gf_form.proofs.lemmas.strategies.Choices.{at_its_place, choice_there, every_choice, long}
-use Rattle.gf_form.proofs.lemmas.strategies.Choices.{place}
+use Rattle.gf_form.proofs.lemmas.strategies.Chosen.{length-all_choices, choices_distinct, IsChoice}
+use Rattle.gf_form.proofs.lemmas.strategies.Chosen.{at_its_place, choice_there, every_choice, long}
+use Rattle.gf_form.proofs.lemmas.strategies.Chosen.{place}
 use Rattle.gf_form.proofs.lemmas.rows.Digits.{product_joined}
-pub use Rattle.gf_form.proofs.lemmas.strategies.Choices.{positive_parts, choices_next, choices_row}
+pub use Rattle.gf_form.proofs.lemmas.strategies.Chosen.{positive_parts, choices_next, choices_row}
 
 pub all_at : {A : Type 0} (P : A → Type 0) (xs : List A) (i : ℕ) (d : A) → AllByRecursion P xs
     → i < length xs → P (get_or xs i d)
@@ -80,9 +80,8 @@ label_more (f ∷ flags) (a ∷ s) (suc (suc i)) less same some =
 label_more (f ∷ g ∷ flags) (a ∷ b ∷ s) (suc zero) less same some = grind (arith, append_assoc)
 label_more flags s i less same some = absurd (grind arith)
 
-pub first_label : (flags : List Bool) (s : List ℕ) (i : ℕ) → i < length s
-    → length flags ≡ length s → i ≡ 0 → reduced_label (take (i + 1) (shown flags s))
-    ≡ choice_text (choice_in flags s i)
+pub first_label : (flags : List Bool) (s : List ℕ) (i : ℕ) → i < length s → length flags ≡ length s
+    → i ≡ 0 → reduced_label (take (i + 1) (shown flags s)) ≡ choice_text (choice_in flags s i)
 first_label (f ∷ flags) (a ∷ s) zero less same none = refl
 first_label flags s i less same none = absurd (grind arith)
 
@@ -103,8 +102,7 @@ all_shown flags s same all = grind arith
 pub whole_label : (flags : List Bool) (s : List ℕ) → length flags ≡ length s
     → ((k : ℕ) → k < length s → get_or flags k false ≡ true)
     → reduced_label (shown flags s) ≡ strategy_label s
-whole_label flags s same all =
-    grind (arith, all_shown, map_twice)
+whole_label flags s same all = grind (arith, all_shown, map_twice)
 
 -- ---- the labels so far
 
@@ -159,8 +157,7 @@ undashed_number n h = grind (arith, all_weaker, digits_of)
 -- what stands before the first dash, and after it
 cut : (xs ys us vs : List ℕ) → AreUndashed xs → AreUndashed ys → xs ++ 45 ∷ us ≡ ys ++ 45 ∷ vs
     → (xs ≡ ys) × (us ≡ vs)
-cut (x ∷ xs) (y ∷ ys) us vs hx hy e =
-    grind (arith, cut xs ys us vs hx.1 hy.1 (ap (drop 1) e))
+cut (x ∷ xs) (y ∷ ys) us vs hx hy e = grind (arith, cut xs ys us vs hx.1 hy.1 (ap (drop 1) e))
 cut [] [] us vs hx hy e = (refl, ap (drop 1) e)
 cut xs ys us vs hx hy e = absurd (grind arith)
 
@@ -183,10 +180,6 @@ module _ {X : Type 0} (text : X → List ℕ) (IsFine : X → Type 0)
 abbrev pub AreSmall : List ℕ → Type 0
 AreSmall ns = AllByRecursion (λ n. n < 2 ^ 64) ns
 
-same_label : (s t : List ℕ)
-    → length s ≡ length t → AreSmall s → AreSmall t → strategy_label s ≡ strategy_label t → s ≡ t
-same_label = same_joined decimal (λ n. n < 2 ^ 64) undashed_number decimal_injective
-
 pub small_choice : (counts choice : List ℕ) → AreSmall counts → IsChoice counts choice
     → AreSmall choice × (length choice ≡ length counts)
 small_choice (n ∷ counts) (a ∷ choice) small h =
@@ -202,7 +195,8 @@ labels_differ counts i j small hi hj e =
     (choice_there counts k (rw length-all_choices at less)).0 in
     let s = at i hi in
     let t = at j hj in
-    choices_distinct counts i j [] hi hj (same_label _ _ (s.1 ∙ sym t.1) s.0 t.0 e)
+    choices_distinct counts i j [] hi hj (same_joined decimal (λ n. n < 2 ^ 64) undashed_number
+    decimal_injective _ _ (s.1 ∙ sym t.1) s.0 t.0 e)
 
 -- ---- texts
 

@@ -16,11 +16,11 @@ use Common.{payoff, set_at, ◌then◌, Ratio, Trees, arith, count, false, plays
 use Common.{List, Node, None, Play, Some, Tree, back, more, none, plus, refl, true, zero, ◌++◌, inr}
 use Common.{◌==◌, map, suc, sym, ◌+◌, ◌<◌, ◌∙◌, ◌∷◌, ◌≡◌, [], ap}
 use Rattle.gf_tree.specs.Description.{AreActions}
-use Rattle.gf_form.proofs.lemmas.strategies.Lookups.{next_position, all_in_turn, zip_in_turn}
-use Rattle.gf_form.proofs.lemmas.strategies.Lookups.{each_set, set_is}
+use Rattle.gf_form.proofs.lemmas.strategies.Chosen.{next_position, all_in_turn, zip_in_turn}
+use Rattle.gf_form.proofs.lemmas.strategies.Chosen.{each_set, set_is}
 use Rattle.gf_form.proofs.lemmas.rows.Descents.{set_there}
-use Rattle.gf_form.proofs.lemmas.values.ValuesComputed.{probability_above, none_computed, value_is}
-use Rattle.gf_form.proofs.lemmas.values.ValuesComputed.{payoff_above, each_action, fraction_at}
+use Rattle.gf_form.proofs.lemmas.values.ValuesComputed.{probability_fraction, none_computed}
+use Rattle.gf_form.proofs.lemmas.values.ValuesComputed.{payoff_above, each_action, fraction_at, value_is}
 
 -- ---- sums and products whose parts are the same
 
@@ -218,7 +218,7 @@ module _ (g : Game) (choices : SetKey → ℕ) (player : ℕ) where
 
   module _ (game : IsGame g) (spellable : IsSpellable g) where
     q_above : (n : Node) (k : ℕ) → IsAbove (q n k)
-    q_above n k = probability_above g spellable (record { node = n; taken = k })
+    q_above n k = (probability_fraction g spellable (record { node = n; taken = k })).den_above_zero
 
     before_above : (paid : Ratio) → IsAbove paid → (n : Node) → IsAbove (plus paid (own n))
     before_above paid h n = plus_above paid (own n) h (payoff_above g spellable player n)
@@ -310,11 +310,10 @@ module _ (g : Game) (choices : SetKey → ℕ) (player : ℕ) where
       chance_adds ts n k actions s sum value chosen hs hsum children size all each h chance paid hc
           hp = absurd (omega (arith, size))
 
-      child_pays : (ts : Trees Node) (n : Node) (key : SetKey) (k a : ℕ) (below : Ratio)
-          → n.set ≡ Some key → (key.player == 0) ≡ false → choices key + 1 ≡ k + a
+      child_pays : (ts : Trees Node) (n : Node) (key : SetKey) (k a : ℕ) (below : Ratio) → n.set
+          ≡ Some key → (key.player == 0) ≡ false → choices key + 1 ≡ k + a
           → AllByRecursion (HasChildren g) (flatten_all ts)
-          → IsChildValue g choices player a ts below
-          → Pays (plus (own n) below) (plays_from n k ts)
+          → IsChildValue g choices player a ts below → Pays (plus (own n) below) (plays_from n k ts)
       child_pays (more t ts) n key k (suc zero) below at personal place children h chance paid hc
           hp =
           let c = all_parts (HasChildren g) (flatten t) (flatten_all ts) children in

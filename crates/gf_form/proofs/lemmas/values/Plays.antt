@@ -36,13 +36,7 @@ mutual
       → plays_from (f n) k (map_trees f ts) ≡ map (carried_play f) (plays_from n k ts)
   children_carried f n k none = refl
   children_carried f n k (more t ts) =
-      grind (
-        arith,
-        plays_carried f t,
-        children_carried f n (k + 1) ts,
-        map_twice,
-        map-append,
-      )
+      grind (arith, plays_carried f t, children_carried f n (k + 1) ts, map_twice, map-append)
 
 -- what holds for the nodes of a tree holds for those on its plays
 module _ (P : Node → Type 0) where
@@ -143,9 +137,8 @@ module _ (g h : Game) (c d : SetKey → ℕ) (player : ℕ) (f : Node → Node) 
         (IsChanceValue g c player n 1 zero_ratio ts)
         (λ position. IsChildValue g c player position ts) value
 
-    chances_alike : (ts : Trees Node) (n : Node) (k : ℕ) (sum value : Ratio)
-        → IsAlike n → AreAlike (flatten_all ts)
-        → IsChanceValue h d player (f n) k sum (map_trees f ts) value
+    chances_alike : (ts : Trees Node) (n : Node) (k : ℕ) (sum value : Ratio) → IsAlike n
+        → AreAlike (flatten_all ts) → IsChanceValue h d player (f n) k sum (map_trees f ts) value
         ≡ IsChanceValue g c player n k sum ts value
     chances_alike none n k sum value a all = refl
     chances_alike (more t ts) n k sum value a all =
@@ -154,8 +147,7 @@ module _ (g h : Game) (c d : SetKey → ℕ) (player : ℕ) (f : Node → Node) 
         × MultipliesTo (a.chance k i) x y × AddsTo sum y next
         × chances_alike ts n (k + 1) next value a both.1 i
 
-    child_alike : (ts : Trees Node) (position : ℕ) (value : Ratio)
-        → AreAlike (flatten_all ts)
+    child_alike : (ts : Trees Node) (position : ℕ) (value : Ratio) → AreAlike (flatten_all ts)
         → IsChildValue h d player position (map_trees f ts) value
         ≡ IsChildValue g c player position ts value
     child_alike (more t ts) (suc zero) value all = value_alike t value (both_alike t ts all).0

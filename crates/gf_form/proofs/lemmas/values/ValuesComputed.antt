@@ -14,7 +14,7 @@ use Common.{plus_of, *ℤ-one, Action, AddsTo, IfSome, IsGame, Option, SetKey, b
 use Common.{set_at, sum_of, IsLcm, IsSet, Ratio, Trees, arith, false, subst, value, Bool, Game, set}
 use Common.{List, Node, None, Some, Step, Tree, ints, more, none, refl, true, zero, ◌*ℤ◌, ◌==◌, suc}
 use Common.{◌≤ℤ◌, sym, ◌*◌, ◌+◌, ◌/◌, ◌<◌, ◌↔◌, ◌∙◌, ◌∷◌, ◌≡◌, ◌≤◌, ◌⊎◌, ℤ}
-use Rattle.gf_form.proofs.lemmas.strategies.Lookups.{each_described, each_set, each_at}
+use Rattle.gf_form.proofs.lemmas.strategies.Chosen.{each_described, each_set, each_at}
 use Rattle.std.proofs.Math.ListN.{length-set}
 
 -- ---- denominators and signs
@@ -40,9 +40,6 @@ module _ (g : Game) (spellable : IsSpellable g) where
       let taken = each_action g IsSpellableAction s (λ key _. actions_of key) in
       let one = whole_fraction 1 (omega arith) in
       grind arith
-
-  pub probability_above : (s : Step) → IsAbove (probability g s)
-  probability_above s = (probability_fraction s).den_above_zero
 
   paid_fraction : (player : ℕ) (o : Option Outcome)
       → IfSome o (λ outcome. AllByRecursion IsFraction outcome.payoffs) → IsFraction (unwrap_or
@@ -173,8 +170,7 @@ node_agrees own f (Some key) P Q c d p q v =
 pub none_stays : (g : Game) (choices : SetKey → ℕ) (player : ℕ) (ts : Trees Node)
     (chances : ℕ → Ratio) (k : ℕ) → chance_value g choices player chances k None ts ≡ None
 none_stays g choices player none chances k = refl
-none_stays g choices player (more t ts) chances k =
-    none_stays g choices player ts chances (k + 1)
+none_stays g choices player (more t ts) chances k = none_stays g choices player ts chances (k + 1)
 
 module _ (g : Game) (spellable : IsSpellable g) (choices : SetKey → ℕ) (player : ℕ) where
   mutual
@@ -313,8 +309,7 @@ nothing_weighed chance sum row fc fs fr k h =
 pub zero_weighed : (number chance other : Ratio) → IsFraction number → IsFraction chance
     → IsFraction other → other.num ≡ pos 0
     → plus_of (Some number) (times_of chance (Some other)) ≡ Some number
-zero_weighed number chance other fn fc fo nothing =
-    grind (arith, zero_is, times_zero, plus_zero)
+zero_weighed number chance other fn fc fo nothing = grind (arith, zero_is, times_zero, plus_zero)
 
 pub first_weighed : (number chance other product : Ratio) → IsFraction number → IsFraction product
     → number.num ≡ pos 0 → times_of chance (Some other) ≡ Some product

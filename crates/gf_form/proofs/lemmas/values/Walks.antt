@@ -16,7 +16,7 @@ use Common.{arith, value, Game, List, Node, None, Some, Tree, drop, more, none, 
 use Common.{◌++◌, ◌==◌, Vec, inl, inr, map, suc, sym, ◌+◌, ◌<◌, ◌∙◌, ◌∷◌, ◌≡◌, ◌≤◌, [], ap}
 use Rattle.std.proofs.lemmas.List.Quantifiers.{position-Some}
 use Rattle.gf_form.proofs.lemmas.values.ValuesComputed.{none_stays, payoffs_of}
-use Rattle.gf_form.proofs.lemmas.strategies.Lookups.{each_described}
+use Rattle.gf_form.proofs.lemmas.strategies.Chosen.{each_described}
 use Rattle.std.proofs.lemmas.List.Sums.{sum_by-append, sum_by-cons, sum_by_push}
 use Rattle.std.proofs.lemmas.Option.{get_or_from_slice_get, slice_get_within}
 use Rattle.gf_tree.specs.declared.game.branch.Branch.{Branch}
@@ -138,8 +138,7 @@ module _ (g : Game) (choices : SetKey → ℕ) (player : ℕ) where
       → ¬ (key.player ≡ 0)
       → value g choices player t ≡ plus_of (Some (payoff_at g player (root_node t)))
       (option_and_then (value g choices player) (at_position (child_trees t) (choices key)))
-  value_by_choice (branch n ts) key is personal =
-      grind (arith, is, false_from_ne_true, value_there)
+  value_by_choice (branch n ts) key is personal = grind (arith, is, false_from_ne_true, value_there)
 
 -- ---- what is open
 

@@ -57,8 +57,7 @@ AreOrdered parts = (n : ℕ) × AreFrom n parts
 pub record Takes (v : Visit) (old new : Parts) : Type 0 where
   pub taken : (test : Visit → Bool) → is_in test old ≡ (test v || is_in test new)
   pub ordered : (n : ℕ) → AreFrom n old → (n ≤ v.demands) × AreFrom v.demands new
-  pub fewer : length new.free.now + length new.own.now
-      < length old.free.now + length old.own.now
+  pub fewer : length new.free.now + length new.own.now < length old.free.now + length old.own.now
 
 -- the parts are what is left of these visits if this action is chosen
 pub record AreParts (step action : ℕ) (visits : List Visit) (parts : Parts) : Type 0 where
@@ -69,8 +68,7 @@ pub record AreParts (step action : ℕ) (visits : List Visit) (parts : Parts) : 
 -- these visits are in order of demands, and none of them demands more than a number
 pub record AreUpTo (n : ℕ) (visits : List Visit) : Type 0 where
   pub ordered : IsNonDecreasingBy (λ v. v.demands) visits
-  pub within : (d : Visit) → 0 < length visits
-      → (get_or visits (length visits - 1) d).demands ≤ n
+  pub within : (d : Visit) → 0 < length visits → (get_or visits (length visits - 1) d).demands ≤ n
 
 -- the second level has this visit in addition
 pub record Adds (v : Visit) (before after : Level) : Type 0 where
@@ -91,8 +89,7 @@ IsChosen step action from left = (place : ℕ) (steps choices : List ℕ)
 abbrev pub IsChosenAt : ℕ → ℕ → ℕ → Level → Level → Type 0
 IsChosenAt spared step action from left = (place : ℕ) (steps choices : List ℕ)
     → place < length from.known.items → ArePositive steps → is_left place steps choices left
-    ≡ (is_left place (step ∷ steps) (action ∷ choices) from
-    || (action == 1 && place == spared))
+    ≡ (is_left place (step ∷ steps) (action ∷ choices) from || (action == 1 && place == spared))
 
 -- the set at this place is known to be met, or there is a visit to it
 abbrev pub can_be_met : ℕ → Level → Bool

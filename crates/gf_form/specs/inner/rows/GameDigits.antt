@@ -36,14 +36,11 @@ pub record AreMadeOf (made : List ℕ → List ℕ) (counts all : List (List ℕ
 abbrev pub digit_actions : Digits → List ℕ
 digit_actions d = map (λ digit. digit.actions) d.digits.items
 
-abbrev pub digit_steps : Digits → List ℕ
-digit_steps d = map (λ digit. digit.step) d.digits.items
-
 -- Each digit has its step, and all values of all digits are within 64 bits. There are as many
 -- choices of an action at each digit as there are profiles, in the same order: the choices with the
 -- number of a profile are those of its strategies. What is chosen at a set stands in the number.
 pub record HasDigits (g : Game) (d : Digits) : Type 0 where
-  pub steps : digit_steps d ≡ steps_of (digit_actions d)
+  pub steps : map (λ digit. digit.step) d.digits.items ≡ steps_of (digit_actions d)
   pub within : product (spans (digit_actions d)) < 2 ^ 64
   pub as_many : product (digit_actions d) ≡ length (full_profiles g)
   pub choices : (number : ℕ) → number < length (full_profiles g)

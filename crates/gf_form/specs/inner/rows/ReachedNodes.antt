@@ -44,11 +44,8 @@ is_sum_at own (Some key) = key.player == 0 || nat_lt 0 own
 abbrev pub is_sum : Game → Node → Bool
 is_sum g n = is_sum_at (paid_at_node g n) n.set
 
--- whether a path is below a child of probability 0, with no sum since
-abbrev pub is_idle : Path → Bool
-is_idle path = path.bound == 0
-
--- a path up to its last node, if it is idle or is not, and something is added there or is not
+-- a path up to its last node, if it is idle (below a child of probability 0, with no sum since) or is
+-- not, and something is added there or is not
 abbrev pub met_if : Bool → Bool → Path → ℕ → Path
 met_if idle adds path own = record {
   weight = path.weight;
@@ -60,11 +57,7 @@ met_if idle adds path own = record {
 
 -- a path up to this node, where it starts anew if it is idle and something is added
 abbrev pub met_node : Game → Path → Node → Path
-met_node g path n = met_if (is_idle path) (is_sum g n) path (paid_at_node g n)
-
--- whether chance moves at a node
-abbrev pub is_drawn : Node → Bool
-is_drawn n = option_map_or (λ key. key.player == 0) n.set false
+met_node g path n = met_if (path.bound == 0) (is_sum g n) path (paid_at_node g n)
 
 -- a path with other demands
 abbrev pub demanding_path : Path → ℕ → Path
@@ -78,7 +71,8 @@ demanding_path path demands = record {
 
 -- the path to the child of a node at this position, with these demands, from the node's on
 abbrev pub drawn : Game → Node → Path → ℕ → Path
-drawn g n path k = if is_drawn n then by_chance path (chances_at g n k) else path
+drawn g n path k = if option_map_or (λ key. key.player == 0) n.set false
+    then by_chance path (chances_at g n k) else path
 
 abbrev pub path_handing : Handing Path
 path_handing = record {

@@ -41,8 +41,7 @@ pub record PaysOver (g : Game) (number k den : ℕ) (whole : ℤ) : Type 0 where
 -- what terms come to at these choices is what is paid at a profile, if it is known to fit
 abbrev pub Settles : Game → ℕ → List ℕ → List ℕ → List Term → Type 0
 Settles g number steps choices es = (k : ℕ) → k < length g.players → (den : ℕ) → 0 < den
-    → den < 2 ^ 127 → AreExactAt den steps choices es
-    → IsWithin (sum_of_terms 0 den steps choices es)
+    → den < 2 ^ 127 → AreExactAt den steps choices es → IsWithin (sum_of_terms 0 den steps choices es)
     → PaysOver g number k den (sum_of_terms (suc k) den steps choices es)
 
 -- the choices at these digits have the number of the profile, less that of the first choices
@@ -71,8 +70,7 @@ pub record IsAsked (asked : Asked) : Type 0 where
 pub record AreWritten (asked : Asked) (count : ℕ) (written : Written) : Type 0 where
   pub rows : AreRowsAt (ArePayoffsAt asked.game.now)
       (take count (asked_profiles asked)) written.rows.items
-  pub values : AllByRecursion (HasValues asked.game.now)
-      (take count (asked_profiles asked))
+  pub values : AllByRecursion (HasValues asked.game.now) (take count (asked_profiles asked))
   pub nodes : IfSome written.nodes (AreNodesOf asked.game.now)
 
 -- the terms settle the rows of these profiles
@@ -82,14 +80,12 @@ SettleRows asked actions terms run = (i : ℕ) → run.from ≤ i → i < run.to
 
 -- the rows of the profiles of a run come next
 abbrev pub AreDue : Asked → Run → Written → Type 0
-AreDue asked run written = IsAsked asked × (run.from ≤ run.to)
-    × (run.to ≤ length asked.numbers.now)
+AreDue asked run written = IsAsked asked × (run.from ≤ run.to) × (run.to ≤ length asked.numbers.now)
     × AreWritten asked run.from written
 
 -- terms in order, with a number for each player
 abbrev pub AreTermsFor : Asked → Terms → Type 0
-AreTermsFor asked terms = AreInOrder terms
-    × (terms.players ≡ length asked.game.now.players)
+AreTermsFor asked terms = AreInOrder terms × (terms.players ≡ length asked.game.now.players)
 
 -- the terms settle the rows of these profiles, by choices of an action at each of these digits
 pub record SettleBy (asked : Asked) (terms : Terms) (digits : List Digit) (run : Run)

@@ -11,7 +11,6 @@ use Rattle.gf_form.specs.declared.strategies.counts.Counts.{Counts}
 pub record AreCounts (g : Game) (c : Counts) : Type 0 where
   pub is_game : IsGame g
   pub actions : map (λ own. own.items) c.actions.items ≡ map (action_counts g) (players_of g)
-  pub strategies : c.strategies.items
-      ≡ map (λ player. length (strategies g player)) (players_of g)
+  pub strategies : c.strategies.items ≡ map (λ player. length (strategies g player)) (players_of g)
   pub profiles : c.profiles.count ≡ length (full_profiles g)
   pub within : length (full_profiles g) ≤ profile_limit

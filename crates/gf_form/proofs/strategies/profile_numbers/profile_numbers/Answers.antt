@@ -3,7 +3,7 @@ use Rattle.gf_form.proofs.Common.{product, Global, length, List, drop, take, Vec
 use Rattle.gf_form.proofs.Common.{◌<◌, ◌≡◌, ℕ}
 use Rattle.gf_form.proofs.lemmas.rows.Digits.{product_joined}
 use Rattle.gf_form.proofs.lemmas.strategies.CountedActions.{own_read}
-use Rattle.gf_form.proofs.lemmas.strategies.Lookups.{all_right, zip_at}
+use Rattle.gf_form.proofs.lemmas.strategies.Chosen.{all_right, zip_at}
 use Rattle.gf_form.proofs.lemmas.strategies.PickedProfiles.{next_picked}
 use Rattle.gf_form.proofs.strategies.profile_numbers.profile_numbers.Goals as goal
 
@@ -15,8 +15,7 @@ with_player-requires-clause-own c =
     let i = c.loop-place.place - 1 in
     let less : i < length c.args.picked.now =
     omega (arith, c.loop-place.auto.place, c.loop-place-test.true, c.requires.as_many) in
-    let own =
-    own_read c.args.picked.now i _ _ less c.index-picked-place.is c.deref.ensures.value in
+    let own = own_read c.args.picked.now i _ _ less c.index-picked-place.is c.deref.ensures.value in
     rw own (zip_at _ [] 0 (lists c.args.picked.now) c.args.counts.now c.requires.below i
     (rw length-map less))
 

@@ -1,6 +1,6 @@
 use Rattle.gf_form.proofs.Common.{[], arith, length-map}
 use Rattle.gf_form.proofs.lemmas.strategies.CountedActions.{own_read}
-use Rattle.gf_form.proofs.lemmas.strategies.Lookups.{zip_counted}
+use Rattle.gf_form.proofs.lemmas.strategies.Chosen.{zip_counted}
 use Rattle.gf_form.proofs.strategies.valid.are_strategies.Goals as goal
 
 pub returns-then-not-is_strategy-clause-complete

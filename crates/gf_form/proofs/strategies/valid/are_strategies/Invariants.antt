@@ -1,5 +1,5 @@
 use Rattle.gf_form.proofs.Common.{ℕ, suc, ◌<◌, [], map, get_or, action_counts}
-use Rattle.gf_form.proofs.lemmas.strategies.Choices.{IsChoice}
+use Rattle.gf_form.proofs.lemmas.strategies.Chosen.{IsChoice}
 use Rattle.gf_form.proofs.strategies.valid.are_strategies.Given as goal
 
 abbrev pub invariant-loop-before : goal.invariant-loop-before

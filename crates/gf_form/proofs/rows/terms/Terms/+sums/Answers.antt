@@ -3,7 +3,7 @@ use Rattle.gf_form.proofs.Common.{◌∷◌, ◌≡◌}
 use Rattle.gf_form.proofs.lemmas.rows.ChoiceSums.{added_through, first_summing, none_demanded}
 use Rattle.gf_form.proofs.lemmas.rows.ChoiceSums.{last_summing, more_summing, summed_sums, last_met}
 use Rattle.gf_form.proofs.lemmas.rows.ChoiceSums.{alone_met}
-use Rattle.gf_form.proofs.lemmas.rows.Merges.{none_ordered}
+use Rattle.gf_form.proofs.lemmas.rows.FlatRows.{none_ordered}
 use Rattle.gf_form.proofs.lemmas.rows.PairRows.{faster_within, first_step}
 use Rattle.gf_form.proofs.rows.terms.Terms.+sums.Goals as goal
 

@@ -1,6 +1,6 @@
 use Rattle.gf_form.proofs.Common.{◌∙◌, ◌≤◌, arith, on_ok_weaker}
-use Rattle.gf_form.proofs.lemmas.rows.Merges.{both_go, first_merge, free_goes, own_goes}
-use Rattle.gf_form.proofs.lemmas.rows.Merges.{demands_read, frees_left, owns_left}
+use Rattle.gf_form.proofs.lemmas.rows.FlatRows.{both_go, first_merge, free_goes, own_goes}
+use Rattle.gf_form.proofs.lemmas.rows.FlatRows.{demands_read, frees_left, owns_left}
 use Rattle.gf_form.proofs.rows.terms.Terms.merge.Goals.{else-loop-free-test}
 use Rattle.gf_form.proofs.rows.terms.Terms.merge.Goals.{then-loop-free-test+else-own-chosen}
 use Rattle.gf_form.proofs.rows.terms.Terms.merge.Goals as goal

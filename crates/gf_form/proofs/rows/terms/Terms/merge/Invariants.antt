@@ -1,5 +1,5 @@
 use Rattle.gf_form.proofs.Common.{◌+◌, ◌-◌}
-use Rattle.gf_form.proofs.lemmas.rows.Merges.{Merges}
+use Rattle.gf_form.proofs.lemmas.rows.FlatRows.{Merges}
 use Rattle.gf_form.proofs.rows.terms.Terms.merge.Given as goal
 
 abbrev pub invariant-loop-free : goal.invariant-loop-free

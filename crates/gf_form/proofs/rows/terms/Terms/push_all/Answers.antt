@@ -1,5 +1,5 @@
 use Rattle.gf_form.proofs.Common.{with_demands, first_terms, add-one, term_at, arith, ap}
-use Rattle.gf_form.proofs.lemmas.rows.Merges.{below_more, more_pushing}
+use Rattle.gf_form.proofs.lemmas.rows.FlatRows.{below_more, more_pushing}
 use Rattle.gf_form.proofs.rows.terms.Terms.push_all.Goals as goal
 
 pub loop-place-preserved : goal.loop-place-preserved

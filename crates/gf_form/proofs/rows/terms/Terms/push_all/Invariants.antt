@@ -1,5 +1,5 @@
 use Rattle.gf_form.proofs.Common.{with_demands, first_terms, EndsBelow}
-use Rattle.gf_form.proofs.lemmas.rows.Merges.{Pushing}
+use Rattle.gf_form.proofs.lemmas.rows.FlatRows.{Pushing}
 use Rattle.gf_form.proofs.rows.terms.Terms.push_all.Given as goal
 
 abbrev pub invariant-loop-place : goal.invariant-loop-place

@@ -1,5 +1,5 @@
 use Rattle.gf_form.proofs.Common.{lowered, term_at, arith}
-use Rattle.gf_form.proofs.lemmas.rows.Merges.{skips, waits, more_pushing, part_more}
+use Rattle.gf_form.proofs.lemmas.rows.FlatRows.{skips, waits, more_pushing, part_more}
 use Rattle.gf_form.proofs.rows.terms.Terms.push_part.Goals as goal
 
 pub loop-place-preserved : goal.loop-place-preserved
@@ -21,5 +21,4 @@ loop-place-preserved c =
     }
 
 pub returns-clause-pushed : goal.returns-clause-pushed
-returns-clause-pushed c =
-    grind (arith, c.loop-place.invariant.pushing.is)
+returns-clause-pushed c = grind (arith, c.loop-place.invariant.pushing.is)

@@ -1,5 +1,5 @@
 use Rattle.gf_form.proofs.Common.{all_terms, MayCome, lowered, part, ◌+◌, ◌-◌, ◌≤◌}
-use Rattle.gf_form.proofs.lemmas.rows.Merges.{Pushing}
+use Rattle.gf_form.proofs.lemmas.rows.FlatRows.{Pushing}
 use Rattle.gf_form.proofs.rows.terms.Terms.push_part.Given as goal
 
 abbrev pub invariant-loop-place : goal.invariant-loop-place

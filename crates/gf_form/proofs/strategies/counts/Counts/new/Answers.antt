@@ -13,8 +13,7 @@ pub returns-in_default-times : goal.returns-in_default-times
 returns-in_default-times c = grind (arith, fits_so_far, length-map, length-profiles)
 
 pub loop-before-preserved : goal.loop-before-preserved
-loop-before-preserved c =
-    grind (arith, next_player, product_joined, map-append, length-map)
+loop-before-preserved c = grind (arith, next_player, product_joined, map-append, length-map)
 
 pub returns : goal.returns
 returns c = grind (arith, length-map, take_past, strategy_counts, as_many_players, length-profiles)

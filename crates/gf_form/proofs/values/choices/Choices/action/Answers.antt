@@ -4,8 +4,7 @@ use Rattle.gf_form.proofs.lemmas.values.Walks.{choice_is}
 use Rattle.gf_form.proofs.values.choices.Choices.action.Goals as goal
 
 pub returns-in-Given : goal.returns-in-Given
-returns-in-Given c g key game are personal his at count =
-    grind (arith, choice_is)
+returns-in-Given c g key game are personal his at count = grind (arith, choice_is)
 
 -- by what is read of a set
 by_stride : (number given stride actions m result choice : ℕ)
