@@ -4,7 +4,7 @@ use Rattle.gf_canon.specs.GameFile.{GameFile}
 use Rattle.gf_canon.specs.CanonicalText.{SpellsWithin}
 use Rattle.gf_canon.specs.Judgement.{MeansFile}
 use Rattle.gf_canon.specs.SameBy.{SameBy}
-use Rattle.gf_canon.specs.declared.sameness.Names.{Names}
+use Rattle.gf_token.specs.declared.names.Names.{Names}
 use Rattle.gf_calls.specs.Refused.{AreRefusedAs, Refusal}
 use Rattle.gf_calls.specs.declared.status.Status.{Status}
 

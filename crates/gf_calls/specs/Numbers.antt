@@ -5,7 +5,7 @@ use Rattle.gf_token.specs.declared.fault.Fault.{Fault}
 use Rattle.gf_token.specs.declared.fault.What.{What}
 use Rattle.gf_token.specs.declared.fault.Why.{Why}
 use Rattle.gf_canon.specs.declared.kind.FileKind.{FileKind}
-use Rattle.gf_canon.specs.declared.sameness.Names.{Names}
+use Rattle.gf_token.specs.declared.names.Names.{Names}
 use Rattle.gf_calls.specs.declared.fault.FaultNumbers.{FaultNumbers}
 use Rattle.gf_form.specs.declared.forms.Strategies.{Strategies}
 use Rattle.gf_calls.specs.declared.status.Status.{Status}

@@ -4,7 +4,7 @@ use Rattle.hex.specs.Hex.{encode_lower}
 use Rattle.sha2.specs.Sha256.{sha256}
 use Rattle.gf_canon.specs.Judgement.{MeansFile}
 use Rattle.gf_canon.specs.NamesAside.{IsTextBy}
-use Rattle.gf_canon.specs.declared.sameness.Names.{Names}
+use Rattle.gf_token.specs.declared.names.Names.{Names}
 use Rattle.gf_calls.specs.Handed.{IsHandedOut}
 use Rattle.gf_calls.specs.Refused.{IsRefusedAs}
 use Rattle.gf_calls.specs.declared.fault.FaultNumbers.{FaultNumbers}

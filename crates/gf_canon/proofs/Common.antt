@@ -17,8 +17,8 @@ pub use Rattle.gf_canon.specs.Pairs.{outcome_pairs, renumbering_pairs, set_numbe
 pub use Rattle.gf_canon.specs.SameBy.{SameBy}
 pub use Rattle.gf_canon.specs.declared.numbering.pairs.NumberPair.{NumberPair}
 pub use Rattle.gf_canon.specs.declared.numbering.pairs.NumberPair.TheVariants.{Outcome, Set}
-pub use Rattle.gf_canon.specs.declared.sameness.Names.{Names}
-pub use Rattle.gf_canon.specs.declared.sameness.Names.TheVariants.{Aside, Kept}
+pub use Rattle.gf_token.specs.declared.names.Names.{Names}
+pub use Rattle.gf_token.specs.declared.names.Names.TheVariants.{Aside, Kept}
 pub use Rattle.gf_canon.specs.inner.NamedBy.{game_by, heading_by, node_by}
 pub use Rattle.gf_canon.specs.inner.NumberMaps.{number_of_set, numbers_in, set_order}
 pub use Rattle.gf_canon.specs.inner.TextParts.{first_line, heading_text, mover_letter, node_line}

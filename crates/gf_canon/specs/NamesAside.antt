@@ -7,7 +7,7 @@ use Rattle.gf_tree.specs.Unnamed.{unnamed_outcome, unnamed_set}
 use Rattle.gf_canon.specs.CanonicalText.{IsTextOf}
 use Rattle.gf_canon.specs.GameFile.{GameFile, SameFile, canonical_text}
 use Rattle.gf_canon.specs.GameFile.GameFile.{extensive, strategic}
-use Rattle.gf_canon.specs.declared.sameness.Names.{Names}
+use Rattle.gf_token.specs.declared.names.Names.{Names}
 
 abbrev pub unnamed_node : Node → Node
 unnamed_node n = record n { name = [] }

@@ -10,10 +10,9 @@ ghost use Rattle.gf_canon.specs.Judgement.{IsJudged, IsPlaced, IsRefusedWith};
 ghost use Rattle.gf_canon.specs.NamesAside.{IsTextBy, file_by};
 
 use crate::kind::{FileKind, kind_of};
-use crate::sameness::Names;
 use crate::text::lines::Lines;
 use gf_nfg::{TextPieces, canonical_nfg};
-use gf_token::Fault;
+use gf_token::{Fault, Names};
 use gf_tree::tell_efg;
 use std::alloc::Global;
 
@@ -38,7 +37,7 @@ fn text_of(alloc: Global, input: &[u8], names: Names) -> Result<TextPieces, Faul
 {
     match kind_of(input)? {
         FileKind::Tree => canonical_efg(alloc, input, names),
-        FileKind::Strategic => canonical_nfg(alloc, input, names.are_kept()),
+        FileKind::Strategic => canonical_nfg(alloc, input, names),
     }
 }
 

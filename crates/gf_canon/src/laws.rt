@@ -32,7 +32,7 @@ ghost use Rattle.gf_canon.specs.CanonicalText.{IsCanonicalText, SpellsWithin, Me
 ghost use Rattle.gf_canon.specs.Judgement.{IsRefused, IsRefusedWith};
 ghost use Rattle.gf_canon.specs.NamesAside.{IsTextBy, SameAsideNames, unnamed};
 ghost use Rattle.gf_canon.specs.SameBy.{SameBy};
-ghost use Rattle.gf_canon.specs.declared.sameness.Names.{Names};
+ghost use Rattle.gf_token.specs.declared.names.Names.{Names};
 ghost use Rattle.gf_canon.specs.WorkedGames.{bonus_text, five_text, lower_case_prize, no_outcome};
 ghost use Rattle.gf_canon.specs.WorkedGames.{nobody, nobody_text, numbered_five, plain_prize};
 ghost use Rattle.gf_canon.specs.WorkedGames.{renamed_prize, seen, two_prizes, unseen, zero_outcome};

@@ -21,6 +21,7 @@ pub use crate::numbering::carry::renumbering;
 pub use crate::numbering::new_numbers::Renumbering;
 pub use crate::numbering::pairs::{NumberPair, ReceivePairs, pairs_between, pairs_of_files};
 pub use crate::numbering::renumber;
-pub use crate::sameness::{Names, SameFault, same, same_by, same_meaning};
+pub use crate::sameness::{SameFault, same, same_by, same_meaning};
 pub use crate::text::write::write_efg;
 pub use gf_nfg::TextPieces;
+pub use gf_token::Names;

@@ -10,7 +10,6 @@ ghost use Rattle.gf_canon.specs.Judgement.{IsRefusedWith, MeansFile};
 ghost use Rattle.gf_canon.specs.MeaningOf.{file_of, file_of_listed};
 ghost use Rattle.gf_canon.specs.SameBy.{SameBy};
 ghost use Rattle.gf_canon.specs.Sameness.{AreRefusedWith, LacksMemory};
-ghost use Rattle.gf_canon.specs.inner.NamedBy.{are_kept};
 
 use crate::checking::{Unkept, check, tell_file};
 use crate::kind::{FileKind, kind_of};
@@ -18,7 +17,7 @@ use crate::meaning::{Listed, Meaning, list_file};
 use crate::sameness::comparison::TreeComparison;
 use crate::sameness::walk::same_games;
 use gf_nfg::{ListedTable, Table, compare_nfg};
-use gf_token::Fault;
+use gf_token::{Fault, Names};
 use gf_tree::{ListedGame, tell_efg};
 use std::alloc::{AllocError, Global};
 
@@ -35,25 +34,6 @@ pub enum SameFault {
     Second(Fault),
     /// Both are accepted, and memory to compare them is refused.
     Memory,
-}
-
-/// Whether names count when files are compared.
-#[derive(Clone, Copy, Debug, PartialEq, Eq)]
-pub enum Names {
-    /// All names count.
-    Kept,
-    /// Title, comment, and the names of nodes, information sets and outcomes count as empty. The
-    /// labels of players, actions and strategies count.
-    Aside,
-}
-
-impl Names {
-    /// Whether all names count.
-    pub(crate) fn are_kept(self) -> bool
-        ensures { result ≡ are_kept self }
-    {
-        self == Names::Kept
-    }
 }
 
 /// Whether two tables are the same.
@@ -122,7 +102,7 @@ fn same_as_table(
             tell_efg(alloc, b, &mut Unkept)?;
             Ok(Ok(false))
         }
-        FileKind::Strategic => compare_nfg(alloc, t, b, names.are_kept()),
+        FileKind::Strategic => compare_nfg(alloc, t, b, names),
     }
 }
 

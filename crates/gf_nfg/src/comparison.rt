@@ -21,7 +21,7 @@ use crate::table::Table;
 use crate::table::agree::{same_frame, same_kept_rows};
 use crate::table::payoffs_in_turn::{PayoffsInTurn, same_left};
 use gf_fraction::Fraction;
-use gf_token::Fault;
+use gf_token::{Fault, Names};
 use std::alloc::{AllocError, Global};
 
 /// A comparison of a table with a file that is told.
@@ -107,24 +107,24 @@ impl<'t> Comparison<'t> {
     }
 
     /// Whether the table is the same as that which was told with this heading; title and comment
-    /// count if it is `named`.
+    /// count if `names` are kept.
     fn is_same(
         mut self,
         alloc: Global,
         t: &ListedTable,
         heading: Heading<'_>,
-        named: bool,
+        names: Names,
     ) -> Result<bool, AllocError>
         requires { (bytes : List ℕ) × HasToldTable
             (IsCompared (flat_map (λ row. row) (rows t.now))) bytes heading self }
         ensures { (bytes : List ℕ) → HasToldTable
             (IsCompared (flat_map (λ row. row) (rows t.now))) bytes heading.entry self.entry
             → (u : table) × SpellsTable bytes u × IsWithinLimit u × IfOk result (λ answer.
-            IsTrue answer ↔ SameTable (named_by named t.now) (named_by named u)) }
+            IsTrue answer ↔ SameTable (named_by names t.now) (named_by names u)) }
     {
         if self.version == Version::Payoffs {
             let frame = heading.frame(alloc)?;
-            if !same_frame(t.frame(), &frame, named) {
+            if !same_frame(t.frame(), &frame, names) {
                 return Ok(false);
             }
             return Ok(self.has_ended());
@@ -134,22 +134,22 @@ impl<'t> Comparison<'t> {
             kept: self.kept,
         };
         let other = parts.into_table(alloc)?;
-        same_table(alloc, t, &other, named)
+        same_table(alloc, t, &other, names)
     }
 }
 
-/// Whether both tables are the same; title and comment count if it is `named`.
+/// Whether both tables are the same; title and comment count if `names` are kept.
 #[tactic(auto, using(crate::proofs::lemmas::tables::Listed::same_listed))]
 fn same_table(
     alloc: Global,
     t: &ListedTable,
     other: &Table,
-    named: bool,
+    names: Names,
 ) -> Result<bool, AllocError>
     ensures { IfOk result (λ answer. IsTrue answer
-        ↔ SameTable (named_by named t.now) (named_by named other.now)) }
+        ↔ SameTable (named_by names t.now) (named_by names other.now)) }
 {
-    if !same_frame(t.frame(), other.frame(), named) {
+    if !same_frame(t.frame(), other.frame(), names) {
         return Ok(false);
     }
     match t.shared() {
@@ -159,7 +159,7 @@ fn same_table(
 }
 
 /// Whether a strategic file means the same table as this one, with which it is compared while it is
-/// read; title and comment count if it is `named`. `AllocError` if it is accepted, and memory to
+/// read; title and comment count if `names` are kept. `AllocError` if it is accepted, and memory to
 /// compare it is refused.
 ///
 /// Refused as `read_nfg` refuses.
@@ -167,16 +167,16 @@ pub fn compare_nfg(
     alloc: Global,
     t: &ListedTable,
     input: &[u8],
-    named: bool,
+    names: Names,
 ) -> Result<Result<bool, AllocError>, Fault>
     ensures same { IfOk result (λ compared. (u : table) × SpellsTable input.now u × IsWithinLimit u
         × IfOk compared (λ answer.
-        IsTrue answer ↔ SameTable (named_by named t.now) (named_by named u))) }
+        IsTrue answer ↔ SameTable (named_by names t.now) (named_by names u))) }
     ensures only { IfErr result (λ fault. (u : table) → SpellsTable input.now u → IsWithinLimit u
         → fault.why ≡ Memory) }
     ensures judged { IfErr result (λ fault. IsJudged fault.why input.now fault.span) }
 {
     let mut comparison = Comparison::new(alloc, t);
     let heading = tell_nfg(alloc, input, &mut comparison)?;
-    Ok(comparison.is_same(alloc, t, heading, named))
+    Ok(comparison.is_same(alloc, t, heading, names))
 }

@@ -10,6 +10,7 @@ use crate::heading::Heading;
 use crate::receive::{Kept, Receive, Version};
 use crate::text::write::write_heading;
 use gf_fraction::Fraction;
+use gf_token::Names;
 use std::alloc::{AllocError, Global};
 
 pub(crate) mod canonical;
@@ -26,7 +27,7 @@ pub(crate) struct ToldText {
     /// How many bytes it is likely to have.
     room: usize,
     /// Whether the title and the comment are written.
-    named: bool,
+    names: Names,
     pub(crate) version: Version,
     /// How many payoffs a line has.
     width: usize,
@@ -38,15 +39,15 @@ pub(crate) struct ToldText {
 
 impl ToldText {
     /// Nothing yet, of a text that is likely to have this many bytes.
-    pub(crate) fn new(alloc: Global, room: usize, named: bool) -> ToldText
+    pub(crate) fn new(alloc: Global, room: usize, names: Names) -> ToldText
         ensures text { result.text.items ≡ [] }
-        ensures named { result.named ≡ named }
+        ensures names { result.names ≡ names }
         ensures kept { (result.kept.payoffs.items ≡ []) × (result.kept.numbers.items ≡ []) }
     {
         ToldText {
             text: Vec::new(alloc),
             room,
-            named,
+            names,
             version: Version::Payoffs,
             width: 0,
             left: 0,
@@ -55,14 +56,14 @@ impl ToldText {
     }
 }
 
-/// Appends everything before the payoffs; title and comment are empty unless it is `named`.
-fn write_told(heading: &Heading<'_>, named: bool, out: &mut Vec<u8>) -> Result<(), AllocError>
+/// Appends everything before the payoffs; title and comment are empty unless `names` are kept.
+fn write_told(heading: &Heading<'_>, names: Names, out: &mut Vec<u8>) -> Result<(), AllocError>
     requires { HasCounts heading.now }
     ensures { OnOk result (out.new.items ≡ out.old.items
-        ++ heading_text (frame_by named (frame_in (content_in heading.now)))) }
+        ++ heading_text (frame_by names (frame_in (content_in heading.now)))) }
 {
     let frame = heading.frame(*out.allocator())?;
-    write_heading(&frame, named, out)
+    write_heading(&frame, names, out)
 }
 
 /// Appends a payoff, and a space or the line feed that ends its line. Lines have `width` payoffs,
@@ -96,7 +97,7 @@ impl<'a> Receive<'a> for ToldText {
     ghost untold = { λ t. (t.text.items ≡ [])
         × (t.kept.payoffs.items ≡ []) × (t.kept.numbers.items ≡ []) };
 
-    ghost holds = { λ untold t told. HasText untold.named t told };
+    ghost holds = { λ untold t told. HasText untold.names t told };
 
     ghost payoffs_full = { λ _. ⊤ };
 
@@ -109,7 +110,7 @@ impl<'a> Receive<'a> for ToldText {
         expected: usize,
     ) -> Result<(), AllocError> {
         self.text.reserve(self.room)?;
-        write_told(heading, self.named, &mut self.text)?;
+        write_told(heading, self.names, &mut self.text)?;
         self.version = version;
         self.width = heading.players.len();
         self.left = self.width;

@@ -8,7 +8,7 @@ use Rattle.sha2.specs.Sha256.{sha256}
 use Rattle.gf_canon.specs.KindOfFile.{MeansFileOf}
 use Rattle.gf_canon.specs.NamesAside.{IsTextBy}
 use Rattle.gf_canon.specs.declared.kind.FileKind.{FileKind}
-use Rattle.gf_canon.specs.declared.sameness.Names.{Names}
+use Rattle.gf_token.specs.declared.names.Names.{Names}
 use Rattle.gf_words.specs.declared.job.LineEnd.{LineEnd}
 use Rattle.gf_run.specs.declared.collections.line.FileLine.{FileLine}
 

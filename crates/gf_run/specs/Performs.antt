@@ -6,7 +6,7 @@ use Rattle.std.specs.String.{string_bytes}
 use Rattle.std.specs.declared.io.Error.{Error}
 use Rattle.gf_canon.specs.NamesAside.{IsTextBy}
 use Rattle.gf_canon.specs.declared.kind.FileKind.{FileKind}
-use Rattle.gf_canon.specs.declared.sameness.Names.{Names}
+use Rattle.gf_token.specs.declared.names.Names.{Names}
 use Rattle.gf_form.specs.declared.forms.Strategies.{Strategies}
 use Rattle.gf_words.specs.declared.job.Input.{Input}
 use Rattle.gf_words.specs.declared.job.Job.{Job}
@@ -21,8 +21,8 @@ use Rattle.gf_run.specs.Opening.{IsFileNotOpened, IsFileOpened, IsNotOpened, IsO
 use Rattle.gf_run.specs.Opening.{Opens}
 use Rattle.gf_run.specs.Reports.{Ends, IsReported, IsTold, IsToldOf, after_name, called_input}
 use Rattle.gf_run.specs.Reports.{name_of, word_of}
-use Rattle.gf_run.specs.Run.{Reads, ReadsHash, RunsCanonBy, RunsCheck, RunsLine, RunsTable, RunsTwo}
-use Rattle.gf_run.specs.Run.{Writes}
+use Rattle.gf_run.specs.Run.{IsAnswerBy, Reads, ReadsHash, RunsCanonBy, RunsCheck, RunsLine, RunsTable}
+use Rattle.gf_run.specs.Run.{RunsTwo, Writes}
 use Rattle.gf_run.specs.Streams.{Stream}
 use Rattle.gf_run.specs.Wrapped.{bytes_kept, kept_at_first, kept_reader, source_of}
 use Rattle.gf_run.specs.declared.collections.collection.Task.{Task}
@@ -333,8 +333,8 @@ module _ {I S W E : Type 0} (opener : Opener I S) (reader : Stream S) (writer : 
         → Opens opener first a.inputs (Ok (source_of s)) mid
         → Opens opener second mid (Ok (source_of t)) b.inputs
         → bytes_kept s ≡ kept_at_first explain → bytes_kept t ≡ kept_at_first explain
-        → RunsTwo (kept_reader reader) (kept_reader reader) writer map names result s s' t t'
-        a.output b.output
+        → RunsTwo (kept_reader reader) (kept_reader reader) writer (IsAnswerBy map names) result
+        s s' t t' a.output b.output
         → Ends (IsReported errors (of_fault result first second)) answer_status result
         (of_fault result (bytes_kept s') (bytes_kept t')) status a.errors b.errors
         → PerformsTwo map names first second status a b

@@ -4,7 +4,7 @@ use Rattle.gf_canon.specs.GameFile.{SameFile}
 use Rattle.gf_canon.specs.NamesAside.{IsTextBy}
 use Rattle.gf_canon.specs.SameBy.{SameBy}
 use Rattle.gf_canon.specs.declared.kind.FileKind.{FileKind}
-use Rattle.gf_canon.specs.declared.sameness.Names.{Names}
+use Rattle.gf_token.specs.declared.names.Names.{Names}
 use Rattle.gf_form.specs.declared.forms.Strategies.{Strategies}
 use Rattle.gf_run.specs.FormText.{IsFaultOfBytes, IsFaultOfFile, IsFaultOfFiles, IsFormText, IsRefusal}
 use Rattle.gf_run.specs.Transfers.{IsNotRead, IsReadWhole, IsWriteFault, IsWritten}
@@ -89,7 +89,16 @@ module _ {R S W : Type 0} (first : Stream R) (second : Stream S) (writer : Strea
       ⊎ ((bytes : List ℕ) × IsReadWhole first old.0 new.0 bytes
       × IsNotRead second Which.Second fault old.1 new.1)
 
-  abbrev pub RunsTwo : Bool → Names → Result Bool RunFault → R → R → S → S → W → W → Type 0
-  RunsTwo map names result a a' b b' o o' = Reads AreReadWhole AreNotRead
-      (λ bytes result. Writes writer (λ same. IsAnswerBy map names same bytes.0 bytes.1)
+  -- this answer about their bytes was written
+  abbrev pub RunsTwo : (Bool → List ℕ → List ℕ → List ℕ → Type 0) → Result Bool RunFault
+      → R → R → S → S → W → W → Type 0
+  RunsTwo Answers result a a' b b' o o' = Reads AreReadWhole AreNotRead
+      (λ bytes result. Writes writer (λ same. Answers same bytes.0 bytes.1)
       (IsFaultOfFiles bytes.0 bytes.1) result o o') (o' ≡ o) result (a, b) (a', b')
+
+  -- `run_same_by`, of which `run_same` is the case with names; and `run_same_map`
+  abbrev pub RunsSameBy : Names → Result Bool RunFault → R → R → S → S → W → W → Type 0
+  RunsSameBy names = RunsTwo (IsAnswer (SameBy names) IsLine)
+
+  abbrev pub RunsSameMap : Result Bool RunFault → R → R → S → S → W → W → Type 0
+  RunsSameMap = RunsTwo (IsAnswer SameFile IsLineAndMap)

@@ -19,10 +19,8 @@ quotes_escaped [] [] back before h e = absurd cc
 quotes_escaped [] (c ∷ front) back before h e = absurd cc
 quotes_escaped (b ∷ bytes) [] back before h e = grind arith
 quotes_escaped (b ∷ bytes) (c ∷ front) back before h e =
-    let same : c ≡ b = cc in
-    let tail : bytes ≡ front ++ 34 ∷ back = cc in
-    rw same (quotes_escaped bytes front back b
-    (and_parts (not (b == 34) || before == 92) (is_spelling_after b bytes) h).1 tail)
+    cc (quotes_escaped bytes front back b (and_parts (not (b == 34) || before == 92)
+    (is_spelling_after b bytes) h).1 cc)
 
 last_not_escape : (bytes : List ℕ) (before : ℕ) → is_spelling_after before bytes ≡ true
     → last_of before bytes ≡ 92 → ⊥
@@ -57,9 +55,7 @@ ends : (bytes : List ℕ) (before : ℕ) → (before ≡ 92 → ⊥) → last_of
     → EndsInBackslash bytes
 unfolding last_of
 ends [] before other e = absurd (other e)
-ends (b ∷ bytes) before other e =
-    let parts = front_and_last bytes b in
-    (parts.0, parts.1 ∙ ap (λ (x : ℕ). parts.0 ++ x ∷ []) e)
+ends (b ∷ bytes) before other e = grind (arith, front_and_last bytes b)
 
 ends_back : (front : List ℕ) (before : ℕ) → last_of before (front ++ 92 ∷ []) ≡ 92
 unfolding last_of

@@ -1,14 +1,14 @@
 -- Which tokens a text spells that is laid out in fields and lines.
-use Rattle.std.proofs.Common.{◌≡◌, ℕ, ◌+◌, true, false, List, [], ◌∷◌, ◌++◌, length, map, refl, sym}
+use Rattle.std.proofs.Common.{◌≡◌, ℕ, ◌+◌, true, List, [], ◌∷◌, ◌++◌, length, map, refl, sym}
 use Rattle.std.proofs.Common.{ap, append_assoc, append-nil, arith}
 use Rattle.std.specs.Prelude.{codes}
 use Rattle.std.specs.List.{AllByRecursion, flat_map}
-use Rattle.gf_token.specs.Byte.{is_space, is_bare}
+use Rattle.gf_token.specs.Byte.{is_space}
 use Rattle.gf_token.specs.Grammar.{Each, braced}
 use Rattle.gf_token.specs.LabelSpelling.{IsLabel}
 use Rattle.gf_token.specs.TextLayout.{lines_text, list_text, quoted, spaced}
 use Rattle.gf_token.specs.Token.{Token, Lexeme, lexeme, spelling}
-use Rattle.gf_token.specs.Token.Token.{Opening, Closing, Comma, Text, Bare, Broken}
+use Rattle.gf_token.specs.Token.Token.{Opening, Closing, Text, Bare, Broken}
 use Rattle.gf_token.specs.TokenSpelling.{IsSpelled, MayPrecede, GoesOn, Spells}
 use Rattle.gf_token.proofs.Grammar.{each_both}
 use Rattle.gf_token.proofs.Spelled.{wider}
@@ -61,11 +61,7 @@ says_token t h precedes on rest others apart told at =
     )
 
 bare_apart : (bytes rest : List ℕ) → IsApart rest → MayPrecede (Bare bytes) rest
-bare_apart bytes [] apart = tt
-bare_apart bytes (b ∷ rest) apart = no_bare b apart
-  where
-    no_bare : (b : ℕ) → is_space b ≡ true → is_bare b ≡ false
-    no_bare b h = rw h refl
+bare_apart bytes rest apart = grind arith
 
 -- ---- fields put together
 
@@ -77,8 +73,7 @@ one field tokens said = record { each = (tokens, [], sym (append-nil tokens), sa
 
 pub both : {xs ys : List (List ℕ)} {ts us : List Token} → AreSaid xs ts → AreSaid ys us
     → AreSaid (xs ++ ys) (ts ++ us)
-both {xs} {ys} {ts} {us} first second =
-    record { each = each_both (λ ts field. Says field ts) xs ys ts us first.each second.each }
+both {xs} {ys} {ts} {us} first second = grind (arith, each_both)
 
 module _ {X : Type 0} (P : X → Type 0) where
   pub each_field : (f : X → List ℕ) (g : X → List Token) → ((x : X) → P x → Says (f x) (g x))
@@ -116,12 +111,7 @@ IsWhole Broken = ⊥
 IsWhole _ = Unit {0}
 
 says_any : (t : Token) → IsSpelled t → IsWhole t → Says (spelling t) (t ∷ [])
-says_any Opening h whole = says_token Opening tt (λ rest apart. tt) (λ ls A a. a)
-says_any Closing h whole = says_token Closing tt (λ rest apart. tt) (λ ls A a. a)
-says_any Comma h whole = says_token Comma tt (λ rest apart. tt) (λ ls A a. a)
-says_any (Text l) h whole = says_label l h
-says_any (Bare bytes) h whole = says_word bytes h
-says_any Broken h whole = absurd whole
+says_any t h whole = grind (arith, says_token, says_label, says_word)
 
 pub each_said : (ts : List Token) → AllByRecursion IsSpelled ts → AllByRecursion IsWhole ts
     → AreSaid (map spelling ts) ts

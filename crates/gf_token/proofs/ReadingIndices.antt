@@ -1,6 +1,6 @@
 -- The reading of an index, as a function, is the index that a text is.
-use Rattle.std.proofs.Common.{◌≡◌, ℕ, ◌<◌, ◌^◌, Bool, true, false, cond}
-use Rattle.std.proofs.Common.{List, [], ◌∷◌, arith, refl, sym, ◌∙◌, Option, Some, None}
+use Rattle.std.proofs.Common.{◌≡◌, ℕ, ◌<◌, ◌^◌, Bool, true, cond}
+use Rattle.std.proofs.Common.{List, [], ◌∷◌, arith, refl, Option, Some, None}
 use Rattle.std.specs.Prelude.{nat_lt}
 use Rattle.std.specs.List.{list_all}
 use Rattle.std.specs.Char.{is_ascii_digit}
@@ -30,9 +30,6 @@ IsDigits-numeral bs h = grind (arith, and_parts, nat_tests, all_digits)
 pub numeral_of : (bs : List ℕ) → IsDigits bs → is_numeral bs ≡ true
 numeral_of bs h = grind (arith, nat_tests, digits_all)
 
-no_numeral : (bs : List ℕ) (b : Bool) → is_numeral bs ≡ b → ¬ (IsDigits bs) → is_numeral bs ≡ false
-no_numeral bs b e h = grind (arith, IsDigits-numeral)
-
 -- each index is read
 pub index_again : (bs : List ℕ) (n : ℕ) → IsIndex bs n → index_of bs ≡ Some n
 unfolding index_of
@@ -50,17 +47,14 @@ index_is bs n e = index_by bs n (is_numeral bs) (nat_lt (digits_value 10 bs) (2 
 
 -- what is not an index is none
 pub no_index : (bs : List ℕ) (fault : IndexFault) → IsNoIndex bs fault → (n : ℕ) → ¬ (IsIndex bs n)
-no_index bs IndexFault.NotDigits h n k = h k.0
-no_index bs IndexFault.TooLarge h n k = omega (arith, h.1, k.1, k.2)
+no_index bs fault h n k = grind arith
 
 none_by : (bs : List ℕ) (o : Option ℕ) → index_of bs ≡ o → ((n : ℕ) → ¬ (IsIndex bs n)) → o ≡ None
-none_by bs (Some n) e none = absurd (none n (index_is bs n e))
-none_by bs None e none = refl
+none_by bs o e none = grind (arith, index_is)
 
 -- so whatever reading an index answers is what is computed
 pub index_read : (bs : List ℕ) (o : Option ℕ) → ReadsIndex bs o → o ≡ index_of bs
-index_read bs (Some n) h = sym (index_again bs n h)
-index_read bs None h = sym (none_by bs (index_of bs) refl h)
+index_read bs o h = grind (arith, index_again, none_by)
 
 pub index_none : (bs : List ℕ) → ((n : ℕ) → ¬ (IsIndex bs n)) → index_of bs ≡ None
 index_none bs none = none_by bs (index_of bs) refl none
@@ -68,8 +62,7 @@ index_none bs none = none_by bs (index_of bs) refl none
 pub ruleset index_answers = (index_read, index_again, index_none)
 
 reads_by : (bs : List ℕ) (o : Option ℕ) → index_of bs ≡ o → ReadsIndex bs o
-reads_by bs (Some n) e = index_is bs n e
-reads_by bs None e = λ n h. let f : None ≡ Some n = sym e ∙ index_again bs n h in cc
+reads_by bs o e = grind (arith, index_is, index_again)
 
 -- it has one answer
 pub one_index : (bs : List ℕ) → (read : Option ℕ) × ReadsIndex bs read

@@ -16,7 +16,6 @@ use Rattle.gf_fraction.specs.Ratio.{Ratio, signed, whole}
 use Rattle.gf_fraction.specs.NumberSpelling.{IsNumber, IsSign}
 use Rattle.gf_fraction.proofs.Offered.{digits_spelled as whole_spelled, is_sign_of, sign_of}
 use Rattle.gf_token.specs.Byte.{is_bare, is_space}
-use Rattle.gf_token.specs.Index.{ReadsIndex}
 use Rattle.gf_token.specs.Token.{lexeme}
 use Rattle.gf_token.specs.Token.Token.{Bare}
 use Rattle.gf_token.specs.TokenSpelling.{IsSpelled, MayPrecede}
@@ -49,12 +48,7 @@ length_range bytes start end within = grind (arith, length-take-le, length-drop)
 slice_more : (bytes : List ℕ) (start at len : ℕ) → start ≤ at
     → slice_range bytes start (at + len) ≡ slice_range bytes start at ++ take len (drop at bytes)
 slice_more bytes start at len order =
-    let parts : at + len - start ≡ at - start + len = omega arith in
-    let there : start + (at - start) ≡ at = omega arith in
-    ap (λ n. take n (drop start bytes)) parts
-    ∙ take-add (at - start) len (drop start bytes)
-    ∙ ap (λ t. slice_range bytes start at ++ take len t) (drop-drop (at - start) start bytes)
-    ∙ ap (λ n. slice_range bytes start at ++ take len (drop n bytes)) there
+    grind (arith, take-add (at - start) len (drop start bytes), drop-drop (at - start) start bytes)
 
 -- bytes that spell a bare token are one, if no further byte of one follows them
 pub finds_bare : (bytes : List ℕ) (start end : ℕ) → IsSpelled (Bare (slice_range bytes start end))
@@ -74,15 +68,13 @@ pub finds_number : (bytes : List ℕ) (start end : ℕ) (r : Ratio)
     → (end < length bytes → is_bare (get_or bytes end 0) ≡ false)
     → FindsNumber bytes start end r
 finds_number bytes start end r number order within ends =
-    let text = slice_range bytes start end in
-    let bare = number_bare text r number in
-    let long = length_range bytes start end within in
-    record {
-      begins = omega (arith, long, some_bytes text bare);
-      within = within;
-      found = finds_bare bytes start end bare order within ends;
-      number = number;
-    }
+    grind (
+      arith,
+      length_range bytes start end within,
+      some_bytes (slice_range bytes start end) (number_bare (slice_range bytes start end) r number),
+      finds_bare bytes start end (number_bare (slice_range bytes start end) r number)
+          order within ends,
+    )
 
 pub digits_found : (bytes : List ℕ) (start at : ℕ) → start < at → at ≤ length bytes
     → AllDigits 10 (slice_range bytes start at)
@@ -98,15 +90,8 @@ pub spaced_found : (bytes : List ℕ) (from end value : ℕ) (index : Option ℕ
     → value ≡ digits_value 10 (slice_range bytes (from + 1) end)
     → index ≡ (if nat_lt value (2 ^ 32) then Some value else None)
     → FindsIndex bytes from end index
-spaced_found bytes from end value index space some within digits ends valued is = record {
-  begins = some;
-  within = omega (arith, within);
-  found =
-      gap_more bytes from (omega (arith, some, within)) space
-      ∙ digits_found bytes (from + 1) end some (omega (arith, within)) digits (λ _. ends);
-  read = subst (ReadsIndex _) (sym is)
-      (scanned bytes (from + 1) end value some (omega (arith, within)) digits valued);
-}
+spaced_found bytes from end value index space some within digits ends valued is =
+    grind (arith, gap_more, digits_found, scanned)
 
 is_45 : (b : ℕ) → (b == 45) ≡ true → b ≡ 45
 is_45 b h = grind (arith, nat_tests)

@@ -1,11 +1,11 @@
 -- The span of a token is the slice of the bytes that spells it.
-use Rattle.std.proofs.Common.{◌≡◌, ℕ, ◌+◌, ◌-◌, ◌<◌, List, [], ◌∷◌, ◌++◌, length, take}
-use Rattle.std.proofs.Common.{drop, refl, sym, ap, subst, ◌∙◌, append_assoc, arith}
+use Rattle.std.proofs.Common.{◌≡◌, ℕ, ◌+◌, ◌<◌, List, [], ◌∷◌, ◌++◌, length}
+use Rattle.std.proofs.Common.{refl, sym, ap, subst, ◌∙◌, append_assoc, arith}
 use Rattle.std.specs.Prelude.{slice_range}
 use Rattle.std.proofs.Math.Seq.{take-append_seam, drop-append_seam}
 use Rattle.std.proofs.lemmas.List.{length-append}
 use Rattle.gf_token.specs.Token.{Token, Lexeme, spelling}
-use Rattle.gf_token.specs.Token.Token.{Opening, Closing, Comma, Text, Bare, Broken}
+use Rattle.gf_token.specs.Token.Token.{Broken}
 use Rattle.gf_token.specs.TokenSpelling.{IsSpelled, GoesOn, BeginsWith, Spells}
 use Rattle.gf_token.specs.Slices.{StandsIn}
 
@@ -16,44 +16,28 @@ some_byte t h = grind arith
 slice_between : (front mid back : List ℕ)
     → slice_range (front ++ (mid ++ back)) (length front) (length front + length mid) ≡ mid
 slice_between front mid back =
-    let size : length front + length mid - length front ≡ length mid = omega arith in
-    ap (λ (k : ℕ). take k (drop (length front) (front ++ (mid ++ back)))) size
-    ∙ ap (take (length mid)) (drop-append_seam front (mid ++ back))
-    ∙ take-append_seam mid back
+    grind (arith, drop-append_seam front (mid ++ back), take-append_seam mid back)
 
 -- a token that comes after the bytes `front`
 stands_after : (front bytes : List ℕ) (l : Lexeme) → BeginsWith (length front) bytes l
     → StandsIn (front ++ bytes) l
 stands_after front bytes l first =
-    let before = front ++ first.gap in
-    let whole : front ++ bytes ≡ before ++ (spelling l.token ++ first.rest) =
-    ap (λ x. front ++ x) first.parts
-    ∙ sym (append_assoc front first.gap (spelling l.token ++ first.rest)) in
-    let start : l.start ≡ length before = first.start ∙ sym (length-append front first.gap) in
-    let end : l.end ≡ length before + length (spelling l.token) =
-    first.end ∙ ap (λ n. n + length (spelling l.token)) start in
-    let some = some_byte l.token first.is_spelled in
-    let size : length (front ++ bytes)
-    ≡ length before + (length (spelling l.token) + length first.rest) =
-    ap length whole
-    ∙ length-append before (spelling l.token ++ first.rest)
-    ∙ ap (λ n. length before + n) (length-append (spelling l.token) first.rest) in
-    record {
-      some = omega (arith, first.end, some);
-      within = omega (arith, end, size);
-      slice = rw (whole, start, end) (slice_between before (spelling l.token) first.rest);
-    }
+    grind (
+      arith,
+      append_assoc front first.gap (spelling l.token ++ first.rest),
+      length-append front first.gap,
+      some_byte l.token first.is_spelled,
+      length-append (front ++ first.gap) (spelling l.token ++ first.rest),
+      length-append (spelling l.token) first.rest,
+      slice_between (front ++ first.gap) (spelling l.token) first.rest,
+    )
 
 -- what goes on with a token goes on with what is spelled
 goes_on_some : (t : Token) (before after : List Lexeme) (l : Lexeme) (A : Type 0)
     → GoesOn t (before ++ l ∷ after) A → A
-goes_on_some Opening before after l A h = h
-goes_on_some Closing before after l A h = h
-goes_on_some Comma before after l A h = h
-goes_on_some (Text label) before after l A h = h
-goes_on_some (Bare bytes) before after l A h = h
 goes_on_some Broken [] after l A h = absurd cc
 goes_on_some Broken (x ∷ before) after l A h = absurd cc
+goes_on_some t before after l A h = h
 
 stands : (before after : List Lexeme) (l : Lexeme) (front bytes : List ℕ) (at : ℕ)
     → at ≡ length front → Spells at bytes (before ++ l ∷ after) → StandsIn (front ++ bytes) l

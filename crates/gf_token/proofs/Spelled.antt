@@ -31,9 +31,7 @@ gap_again : (gap rest : List ℕ) (at : ℕ) → IsGap gap
 unfolding lex
 gap_again [] rest at h = let e : at ≡ at + 0 = omega arith in ap (λ (i : ℕ). lex Gap i rest) e
 gap_again (b ∷ gap) rest at h =
-    let e : at + 1 + length gap ≡ at + suc (length gap) = omega arith in
-    rw (space_out at b h.0, space_after at b h.0)
-    (gap_again gap rest (at + 1) h.1 ∙ ap (λ (i : ℕ). lex Gap i rest) e)
+    grind (arith, space_out, space_after, gap_again gap rest (at + 1) h.1)
 
 bare_again : (bs acc rest : List ℕ) (start at : ℕ) → AllBare bs
     → lex (InBare start acc) at (bs ++ rest)
@@ -41,11 +39,7 @@ bare_again : (bs acc rest : List ℕ) (start at : ℕ) → AllBare bs
 unfolding lex
 bare_again [] acc rest start at h = grind (arith, append-nil)
 bare_again (b ∷ bs) acc rest start at h =
-    let e : at + 1 + length bs ≡ at + suc (length bs) = omega arith in
-    rw h.0 (bare_again bs (acc ++ b ∷ []) rest start (at + 1) h.1
-    ∙ ap (λ (i : ℕ). lex (InBare start ((acc ++ b ∷ []) ++ bs)) i rest) e
-    ∙ ap (λ (x : List ℕ). lex (InBare start x) (at + suc (length bs)) rest)
-    (append_assoc acc (b ∷ []) bs))
+    grind (arith, append_assoc, bare_again bs (acc ++ b ∷ []) rest start (at + 1) h.1)
 
 -- a byte of a label does not close it, and a byte that does not close it may be one of its bytes
 goes_on : (quote escaped : Bool) → (not quote || escaped) ≡ true → (quote && not escaped) ≡ false
@@ -222,9 +216,7 @@ text_parts at bs ls (closed more rest others parts label first then) =
     ap (λ (x : List ℕ). 34 ∷ x) (append_assoc more (34 ∷ []) rest ∙ sym parts) in
     subst (λ (x : List Lexeme). Spells at (34 ∷ bs) x) (sym first)
     (subst (λ (x : List ℕ). Spells at x (found ∷ others)) k all)
-text_parts at bs ls (never none first) =
-    subst (λ (x : List Lexeme). Spells at (34 ∷ bs) x) (sym first)
-    (after_one Broken at (at + 1) bs [] tt none refl refl)
+text_parts at bs ls (never none first) = grind (arith, after_one Broken)
 
 bare_parts : (b at : ℕ) (bs : List ℕ) (ls : List Lexeme) → is_bare b ≡ true
     → BareEnds at (b ∷ []) (at + 1) bs ls → Spells at (b ∷ bs) ls
@@ -326,23 +318,9 @@ means : (bytes : List ℕ) (at : ℕ) → Known at bytes
 unfolding lex
 means [] at Gap = tt
 means [] at (InText start before text) = never (closes_never_none before) refl
-means [] at (InBare start text) =
-    let e : at ≡ at + 0 = omega arith in
-    record {
-      more = [];
-      rest = [];
-      others = [];
-      parts = refl;
-      bare = tt;
-      first =
-          ap (λ (x : List ℕ). lexeme start at (Bare x) ∷ []) (sym (append-nil text))
-          ∙ ap (λ (i : ℕ). lexeme start i (Bare (text ++ [])) ∷ []) e;
-      stands = tt;
-      then = tt;
-    }
+means [] at (InBare start text) = grind (arith, append-nil text)
 means (b ∷ bs) at Gap = gap_step b at bs (class_of b) (means bs (at + 1))
-means (b ∷ bs) at (InBare start text) =
-    bare_step b at start text bs (is_bare b) refl (means bs (at + 1))
+means (b ∷ bs) at (InBare start text) = grind (arith, bare_step, means bs (at + 1))
 means (b ∷ bs) at (InText start before text) =
     text_step b at start before text bs ((b == 34) && not (before == 92)) refl (means bs (at + 1))
 

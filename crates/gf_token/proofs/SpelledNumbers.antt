@@ -1,7 +1,7 @@
 -- The texts of numbers and of indices are the bytes of bare tokens, and the texts of indices are
 -- read as indices.
-use Rattle.std.proofs.Common.{◌≡◌, ◌⊎◌, ℕ, ℤ, ◌^◌, ◌<◌, ◌≤◌, true, List, [], ◌∷◌, ◌++◌, Ok}
-use Rattle.std.proofs.Common.{Err, refl, arith}
+use Rattle.std.proofs.Common.{◌≡◌, ◌⊎◌, ℕ, ℤ, ◌^◌, ◌<◌, ◌≤◌, true, List, [], ◌∷◌, ◌++◌}
+use Rattle.std.proofs.Common.{refl, arith}
 use Rattle.std.specs.Prelude.{codes, decimal, Bool}
 use Rattle.std.specs.Char.{digit_value}
 use Rattle.std.specs.Str.Parse.{AllDigits, IsNumeral}
@@ -18,7 +18,6 @@ use Rattle.gf_fraction.specs.NumberSpelling.{Reading, IsSign, IsPlain, IsExponen
 use Rattle.gf_fraction.specs.NumberSpelling.{IsNumber}
 use Rattle.gf_fraction.specs.NumberSpelling.IsPlain.{whole, pointed}
 use Rattle.gf_fraction.specs.NumberSpelling.HasShape.{plain, raised, fraction}
-use Rattle.gf_fraction.specs.declared.fraction.NumberFault.{NumberFault}
 use Rattle.gf_fraction.specs.Offered.{number_of}
 use Rattle.gf_fraction.proofs.Offered.{all_both, all_parts, number_again, written_is_read}
 
@@ -60,8 +59,7 @@ bare_shape _ _ (fraction num den is_num is_den) = grind (arith, bare_both, bare_
 
 pub number_bare : (text : List ℕ) (r : Ratio) → IsNumber text r → IsSpelled (Bare text)
 unfolding number_of
-number_bare [] r h =
-    absurd (let e : Err NumberFault.NotANumber ≡ Ok r = number_again [] r h in cc)
+number_bare [] r h = grind (arith, number_again [] r h)
 number_bare (b ∷ bytes) r h = grind (arith, bare_both, bare_sign, bare_shape)
 
 pub number_spelled : (r : Ratio) → IsFraction r → IsSpelled (Bare (number_text r))

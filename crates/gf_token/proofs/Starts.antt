@@ -1,9 +1,9 @@
 -- What the byte at a place says about the token that begins there.
-use Rattle.std.proofs.Common.{arith, ◌≡◌, ℕ, ◌+◌, ◌<◌, Bool, true, false, ◌==◌, ◌&&◌, not, List, []}
-use Rattle.std.proofs.Common.{◌∷◌, ◌++◌, length, get_or, drop, refl, ap, ◌∙◌, if◌then◌else◌}
+use Rattle.std.proofs.Common.{arith, ◌≡◌, ℕ, ◌+◌, ◌<◌, Bool, true, false, List, []}
+use Rattle.std.proofs.Common.{◌∷◌, ◌++◌, length, get_or, drop}
 use Rattle.std.proofs.lemmas.Bool.{cases_eq}
 use Rattle.gf_token.specs.Byte.{is_space, is_bare}
-use Rattle.gf_token.specs.Token.{Token, lexeme}
+use Rattle.gf_token.specs.Token.{Token}
 use Rattle.gf_token.specs.Token.Token.{Opening, Closing, Comma, Text, Bare, Broken}
 use Rattle.gf_token.specs.inner.Lexing.{lex, ended, after, single, begins}
 use Rattle.gf_token.specs.inner.Lexing.Mode.{Gap, InText, InBare}
@@ -18,11 +18,7 @@ pub in_bare : (test : Token → Bool) → ((text : List ℕ) → test (Bare text
 unfolding lex
 in_bare test none start text at [] = none text
 in_bare test none start text at (b ∷ bytes) =
-    elim (is_bare b) as
-    (λ v. starts test ((if v then [] else lexeme start at (Bare text) ∷ single at b)
-    ++ lex (if v then InBare start (text ++ b ∷ []) else begins at b) (at + 1) bytes)
-    ≡ false)
-    [ true ↦ in_bare test none start (text ++ b ∷ []) (at + 1) bytes | false ↦ none text ]
+    grind (arith, single, begins, in_bare test none start (text ++ b ∷ []) (at + 1) bytes)
 
 -- what begins with a quote is a text, or broken
 pub in_text : (test : Token → Bool) (answer : Bool) → ((text : List ℕ) → test (Text text) ≡ answer)
@@ -31,19 +27,11 @@ pub in_text : (test : Token → Bool) (answer : Bool) → ((text : List ℕ) →
 unfolding lex
 in_text test answer whole broken start before text at [] = broken
 in_text test answer whole broken start before text at (b ∷ bytes) =
-    elim (b == 34 && not (before == 92)) as
-    (λ v. starts test ((if v then lexeme start (at + 1) (Text text) ∷ [] else [])
-    ++ lex (if v then Gap else InText start b (text ++ b ∷ [])) (at + 1) bytes)
-    ≡ answer) [
-      | true ↦ whole text
-      | false ↦ in_text test answer whole broken start b (text ++ b ∷ []) (at + 1) bytes
-    ]
+    grind (arith, in_text test answer whole broken start b (text ++ b ∷ []) (at + 1) bytes)
 
 pub quoted : (bytes : List ℕ) (at : ℕ) → at < length bytes → get_or bytes at 0 ≡ 34
     → starts is_quoted (lex Gap at (drop at bytes)) ≡ true
-quoted bytes at lt is =
-    ap (starts is_quoted) (lex_more Gap bytes at lt) ∙ rw is
-    (in_text is_quoted true (λ t. refl) refl at 34 [] (at + 1) (drop (at + 1) bytes))
+quoted bytes at lt is = grind (arith, lex_more, in_text)
 
 -- the token that begins with the byte b at a place
 front : (test : Token → Bool) (bytes : List ℕ) (at b : ℕ) (rest : List ℕ)

@@ -1,6 +1,6 @@
 -- What the loops over the bytes find, one byte at a time.
 use Rattle.std.proofs.Common.{◌≡◌, ℕ, ◌+◌, ◌-◌, ◌<◌, ◌≤◌, true, false, ◌==◌, ◌&&◌, List, [], ◌∷◌}
-use Rattle.std.proofs.Common.{◌++◌, length, get_or, take, drop, refl, sym, ap, ◌∙◌, arith}
+use Rattle.std.proofs.Common.{◌++◌, length, get_or, take, drop, refl, ap, ◌∙◌, arith}
 use Rattle.std.proofs.Common.{append_assoc}
 use Rattle.std.specs.Prelude.{slice_range, not}
 use Rattle.std.proofs.lemmas.Bool.Decides.{nat_tests}
@@ -123,16 +123,13 @@ stays_open bytes start at h quote o =
 pub closes : (bytes : List ℕ) (start at : ℕ) → at < length bytes → get_or bytes at 0 ≡ 34
     → (get_or bytes (at - 1) 0 ≡ 92 → ⊥) → IsOpen bytes start at → ClosesText bytes start at
 closes bytes start at h s other o =
-    let e : (get_or bytes (at - 1) 0 == 92) ≡ false = grind (arith, nat_tests) in
-    let text = slice_range bytes (start + 1) at in
-    record {
-      begins = o.begins;
-      within = h;
-      spelled = ap is_spelling (sym (append-nil text)) ∙ o.spelled [] ∙ rw e refl;
-      found =
-          o.same ∙ lex_more (InText start (get_or bytes (at - 1) 0) text) bytes at h
-          ∙ rw (s, e) refl;
-    }
+    grind (
+      arith,
+      nat_tests,
+      begins,
+      append-nil (slice_range bytes (start + 1) at),
+      lex_more (InText start (get_or bytes (at - 1) 0) (slice_range bytes (start + 1) at)) bytes,
+    )
 
 pub breaks : (bytes : List ℕ) (start at : ℕ) → length bytes ≤ at → IsOpen bytes start at
     → lex Gap start (drop start bytes) ≡ lexeme start (start + 1) Broken ∷ []

@@ -81,11 +81,7 @@ all_ahead input ls h = record { given = []; spelled = h }
 -- each token has a byte at least
 few_in_order : (end from : ℕ) (ls : List Lexeme) → AreInOrder end from ls → from + length ls ≤ end
 few_in_order end from [] h = omega (arith, h)
-few_in_order end from (l ∷ ls) h =
-    let later = few_in_order end l.end ls h.2 in
-    let near = h.0 in
-    let some = h.1 in
-    omega (arith, later, near, some)
+few_in_order end from (l ∷ ls) h = grind (arith, few_in_order end l.end ls h.2)
 
 pub few_ahead : (input : List ℕ) (ls : List Lexeme) → Spells 0 input ls → length ls ≤ length input
 few_ahead input ls h = let few = few_in_order _ 0 ls (all_in_order input ls h) in omega (arith, few)

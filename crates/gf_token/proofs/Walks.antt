@@ -75,10 +75,9 @@ module _ {S : Type 0} (step : S → Token → Result S Why) where
 -- where tokens end, or one of them stands, they have begun
 pub place_after : (end from : ℕ) (before after : List Lexeme) (span : Span)
     → AreInOrder end from (before ++ after) → IsSpanOf after end span → from ≤ span.start
-place_after end from [] [] span order place = grind arith
-place_after end from [] (l ∷ ls) span order place = grind arith
 place_after end from (z ∷ zs) after span order place =
     grind (arith, place_after end z.end zs after span order.2 place)
+place_after end from before after span order place = grind arith
 
 abbrev without_place : {C : Type 0} → Result C Fault → Result C Why
 without_place (Ok r) = Ok r

@@ -6,7 +6,7 @@ use Rattle.gf_tree.specs.Game.{Game}
 use Rattle.gf_tree.specs.Told.{Heading, Told, heading_in}
 use Rattle.gf_tree.specs.CanonicalGame.{canonical_game}
 use Rattle.gf_canon.specs.inner.NamedBy.{heading_by, node_by}
-use Rattle.gf_canon.specs.declared.sameness.Names.{Names}
+use Rattle.gf_token.specs.declared.names.Names.{Names}
 
 -- a tree with this heading and these nodes is the same as the game, as far as names count
 pub record AgreesWith (names : Names) (g : Game) (told : Heading) (given : List FileNode) : Type 0

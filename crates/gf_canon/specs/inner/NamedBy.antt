@@ -1,24 +1,22 @@
 -- What counts of the heading and the nodes of a game, with names or without them.
-use Rattle.std.specs.Prelude.{Bool, true, false, []}
+use Rattle.gf_token.specs.NameBy.{name_by}
 use Rattle.gf_tree.specs.FileTree.{FileNode}
 use Rattle.gf_tree.specs.Game.{Game}
 use Rattle.gf_tree.specs.Told.{Heading}
 use Rattle.gf_tree.specs.Unnamed.{unnamed_file_node}
 use Rattle.gf_canon.specs.NamesAside.{unnamed_game}
-use Rattle.gf_canon.specs.declared.sameness.Names.{Names}
+use Rattle.gf_token.specs.declared.names.Names.{Names}
 
 abbrev pub node_by : Names → FileNode → FileNode
 node_by Names.Kept n = n
 node_by Names.Aside n = unnamed_file_node n
 
 abbrev pub heading_by : Names → Heading → Heading
-heading_by Names.Kept h = h
-heading_by Names.Aside h = record h { title = []; comment = [] }
+heading_by names h = record h {
+  title = name_by names h.title;
+  comment = name_by names h.comment;
+}
 
 abbrev pub game_by : Names → Game → Game
 game_by Names.Kept g = g
 game_by Names.Aside g = unnamed_game g
-
-abbrev pub are_kept : Names → Bool
-are_kept Names.Kept = true
-are_kept Names.Aside = false

@@ -8,7 +8,7 @@ use Rattle.gf_tree.specs.FileTree.{FileNode, Use}
 use Rattle.gf_tree.specs.Told.{Heading, Told}
 use Rattle.gf_canon.specs.GameText.{node_text}
 use Rattle.gf_canon.specs.inner.NamedBy.{heading_by, node_by}
-use Rattle.gf_canon.specs.declared.sameness.Names.{Names}
+use Rattle.gf_token.specs.declared.names.Names.{Names}
 
 -- each followed by a space
 abbrev pub spaced_out : List (List ℕ) → List ℕ

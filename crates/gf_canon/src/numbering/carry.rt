@@ -12,8 +12,8 @@ ghost use Rattle.gf_canon.specs.inner.NumberMaps.{number_of_set};
 ghost use Rattle.gf_tree.specs.SameGame.{SameGame};
 
 use crate::numbering::new_numbers::Renumbering;
-use crate::sameness::Names;
 use crate::sameness::walk::same_games;
+use gf_token::Names;
 use gf_tree::{Game, Step};
 use std::alloc::{AllocError, Global};
 use std::collections::BTreeMap;

@@ -15,7 +15,8 @@ ghost use Rattle.gf_canon.specs.Pairs.{set_pairs};
 ghost use Rattle.gf_canon.specs.Sameness.{AreRefusedWith};
 
 use crate::meaning::{Meaning, read_file};
-use crate::sameness::{Names, SameFault, same_meaning};
+use crate::sameness::{SameFault, same_meaning};
+use gf_token::Names;
 use gf_tree::Game;
 use std::alloc::{AllocError, Global};
 

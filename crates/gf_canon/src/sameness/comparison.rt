@@ -4,8 +4,8 @@ ghost use Rattle.std.specs.Prelude.{◌≡◌, ◌↔◌, [], IsTrue};
 ghost use Rattle.gf_tree.specs.FileNodes.{file_nodes};
 ghost use Rattle.gf_tree.specs.CanonicalGame.{canonical_game};
 
-use crate::sameness::Names;
 use crate::sameness::counted::{same_heading, same_node};
+use gf_token::Names;
 use gf_tree::{FileNodes, ListedGame, NumberedNode, Receive, ToldHeading};
 use std::alloc::AllocError;
 

@@ -6,34 +6,31 @@ ghost use Rattle.gf_tree.specs.Told.{heading_of, told_of};
 ghost use Rattle.gf_tree.specs.Undescribed.{undescribed, undescribed_use};
 ghost use Rattle.gf_canon.specs.inner.NamedBy.{heading_by, node_by};
 
-use crate::sameness::Names;
-use gf_token::Label;
+use gf_token::Names;
 use gf_tree::{FileNode, NumberedNode, OutcomeUse, SetUse, ToldHeading};
 
-impl Names {
-    /// What counts of a heading.
-    pub(crate) fn of_heading<'n, 'a>(self, heading: ToldHeading<'n, 'a>) -> ToldHeading<'n, 'a>
-        ensures { heading_of result ≡ heading_by self (heading_of heading.entry) }
-    {
-        match self {
-            Names::Kept => heading,
-            Names::Aside => ToldHeading {
-                title: Label::of_spelling(b""),
-                comment: Label::of_spelling(b""),
-                ..heading
-            },
-        }
+/// What counts of a heading.
+pub(crate) fn counted_heading<'n, 'a>(
+    heading: ToldHeading<'n, 'a>,
+    names: Names,
+) -> ToldHeading<'n, 'a>
+    ensures { heading_of result ≡ heading_by names (heading_of heading.entry) }
+{
+    ToldHeading {
+        title: names.of(heading.title),
+        comment: names.of(heading.comment),
+        ..heading
     }
+}
 
-    /// What counts of a node.
-    #[inline(always)]
-    pub(crate) fn of_node<'n, 'a>(self, node: FileNode<'n, 'a>) -> FileNode<'n, 'a>
-        ensures { file_node_of result ≡ node_by self (file_node_of node.entry) }
-    {
-        match self {
-            Names::Kept => node,
-            Names::Aside => node.unnamed(),
-        }
+/// What counts of a node.
+#[inline(always)]
+pub(crate) fn counted_node<'n, 'a>(node: FileNode<'n, 'a>, names: Names) -> FileNode<'n, 'a>
+    ensures { file_node_of result ≡ node_by names (file_node_of node.entry) }
+{
+    match names {
+        Names::Kept => node,
+        Names::Aside => node.unnamed(),
     }
 }
 
@@ -45,7 +42,7 @@ fn same_described(a: NumberedNode<'_, '_>, b: NumberedNode<'_, '_>, names: Names
     ensures { IsTrue result
         ↔ (node_by names (told_of a.entry).node ≡ node_by names (told_of b.entry).node) }
 {
-    names.of_node(a.file_node()) == names.of_node(b.file_node())
+    counted_node(a.file_node(), names) == counted_node(b.file_node(), names)
 }
 
 /// Whether two uses are of the same set, or both are absent.
@@ -107,5 +104,5 @@ pub(crate) fn same_heading(a: ToldHeading<'_, '_>, b: ToldHeading<'_, '_>, names
     ensures { IsTrue result
         ↔ (heading_by names (heading_of a.entry) ≡ heading_by names (heading_of b.entry)) }
 {
-    names.of_heading(a) == names.of_heading(b)
+    counted_heading(a, names) == counted_heading(b, names)
 }

@@ -8,8 +8,8 @@ ghost use Rattle.gf_canon.specs.GameFile.GameFile.{extensive};
 ghost use Rattle.gf_canon.specs.inner.NamedBy.{node_by};
 ghost use Rattle.gf_canon.specs.SameBy.{SameBy};
 
-use crate::sameness::Names;
 use crate::sameness::counted::{same_heading, same_node};
+use gf_token::Names;
 use gf_tree::Game;
 
 /// Whether the nodes of both games are the same by first-use numbers.

@@ -2,9 +2,10 @@
 
 ghost use Rattle.std.specs.Prelude.{◌≡◌, []};
 
-use crate::sameness::Names;
+use crate::sameness::counted::{counted_heading, counted_node};
 use crate::text::node_line::write_node;
 use crate::text::write::write_heading;
+use gf_token::Names;
 use gf_tree::{NumberedNode, Receive, ToldHeading};
 use std::alloc::{AllocError, Global};
 
@@ -42,12 +43,12 @@ impl<'a> Receive<'a> for Lines {
 
     fn heading(&mut self, heading: ToldHeading<'_, 'a>) -> Result<(), AllocError> {
         self.text.reserve(self.room)?;
-        write_heading(self.names.of_heading(heading), &mut self.text)
+        write_heading(counted_heading(heading, self.names), &mut self.text)
     }
 
     #[tactic(auto, using(crate::proofs::lemmas::texts::ToldTexts::one_line_more))]
     #[inline(always)]
     fn node(&mut self, node: NumberedNode<'_, 'a>) -> Result<(), AllocError> {
-        write_node(&self.names.of_node(node.file_node()), &mut self.text)
+        write_node(&counted_node(node.file_node(), self.names), &mut self.text)
     }
 }

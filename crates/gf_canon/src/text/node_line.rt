@@ -10,14 +10,10 @@ ghost use Rattle.gf_canon.specs.GameText.{set_fields, step_fields};
 ghost use Rattle.gf_canon.specs.inner.TextParts.{node_line};
 
 use crate::text::braces::{write_outcome, write_set};
-use crate::text::plain_line::write_plain;
+use crate::text::plain_line::{LINE_LEN, ROOM, append_from, write_number_before, write_plain};
 use gf_token::{Label, write_label};
 use gf_tree::{FileNode, OutcomeUse, SetUse};
-use itoa::write_digits;
 use std::alloc::AllocError;
-
-/// Room for a space and the digits of a number.
-const ROOM: usize = 11;
 
 /// Appends a space and a number. After an `Err` the items are as they were.
 fn write_number(number: u32, out: &mut Vec<u8>) -> Result<(), AllocError>
@@ -25,10 +21,9 @@ fn write_number(number: u32, out: &mut Vec<u8>) -> Result<(), AllocError>
         (out.new.items ≡ out.old.items ++ others_text (decimal number ∷ [])) }
     ensures same { OnErr result (out.new.items ≡ out.old.items) }
 {
-    let mut text = [b' '; ROOM];
-    let start = write_digits(u64::from(number), &mut text, ROOM) - 1;
-    text[start] = b' ';
-    out.extend_from_slice(&text[start..])
+    let mut text = [0; ROOM];
+    let start = write_number_before(LINE_LEN, number, &mut text);
+    append_from(start, &text, out)
 }
 
 /// Appends the letter, the node's name, and the player's number if it is not chance that moves.

@@ -14,14 +14,14 @@ use std::alloc::AllocError;
 
 /// Room for a line without a node's name: a letter and a space, two quotes, the numbers of its
 /// player, its set and its outcome, each a space and ten digits, and a line feed.
-const LINE_LEN: usize = 38;
+pub(crate) const LINE_LEN: usize = 38;
 
 /// Room for a line that ends at `LINE_LEN`, and for `LINE_LEN` bytes from wherever it begins.
-const ROOM: usize = 2 * LINE_LEN;
+pub(crate) const ROOM: usize = 2 * LINE_LEN;
 
 /// Writes a space and the digits of a number so that they end at `end`. Returns where they begin.
 #[inline(always)]
-fn write_number_before(end: usize, number: u32, text: &mut [u8; ROOM]) -> usize
+pub(crate) fn write_number_before(end: usize, number: u32, text: &mut [u8; ROOM]) -> usize
     requires within { (11 ≤ end) × (end ≤ 38) }
     ensures within { (end ≤ result + 11) × (result ≤ end) }
     ensures written { drop result text.new ≡ 32 ∷ (decimal number ++ drop end text.old) }
@@ -79,7 +79,11 @@ fn write_front_before(at: usize, letter: u8, text: &mut [u8; ROOM]) -> usize
 /// Appends what was written so that it ends at `LINE_LEN`, from where it begins. After an `Err` the
 /// items are as they were.
 #[inline(always)]
-fn append_from(start: usize, text: &[u8; ROOM], out: &mut Vec<u8>) -> Result<(), AllocError>
+pub(crate) fn append_from(
+    start: usize,
+    text: &[u8; ROOM],
+    out: &mut Vec<u8>,
+) -> Result<(), AllocError>
     requires within { start ≤ 38 }
     ensures ok { (line rest : List ℕ) → drop start text.now ≡ line ++ rest
         → length line + start ≡ 38 → OnOk result (out.new.items ≡ out.old.items ++ line) }

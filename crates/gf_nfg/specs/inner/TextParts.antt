@@ -1,17 +1,19 @@
 -- The pieces of a canonical text, for the functions that append them.
-use Rattle.std.specs.Prelude.{ℕ, ◌-◌, Bool, List, [], ◌∷◌, ◌++◌, map}
+use Rattle.std.specs.Prelude.{ℕ, ◌-◌, List, [], ◌∷◌, ◌++◌, map}
 use Rattle.std.specs.Prelude.{codes, drop, get_or, if◌then◌else◌, nat_lt}
 use Rattle.std.specs.List.{flat_map}
 use Rattle.gf_fraction.specs.Ratio.{Ratio}
 use Rattle.gf_fraction.specs.NumberText.{number_text}
+use Rattle.gf_token.specs.NameBy.{name_by}
+use Rattle.gf_token.specs.declared.names.Names.{Names}
 use Rattle.gf_nfg.specs.TableParts.{Frame}
 use Rattle.gf_nfg.specs.TableText.{lines_text, list_text, quoted, spaced}
 
--- title and comment are empty if it is not named
-abbrev pub frame_by : Bool → Frame → Frame
-frame_by named n = record n {
-  title = if named then n.title else [];
-  comment = if named then n.comment else [];
+-- a frame with its names or without
+abbrev pub frame_by : Names → Frame → Frame
+frame_by names n = record n {
+  title = name_by names n.title;
+  comment = name_by names n.comment;
 }
 
 -- the payoffs at one profile

@@ -1,7 +1,8 @@
 //! Whether two tables are the same to play.
 
-ghost use Rattle.std.specs.Prelude.{◌≡◌, ◌↔◌, [], IfOk, IsTrue, if◌then◌else◌};
+ghost use Rattle.std.specs.Prelude.{◌≡◌, ◌↔◌, IfOk, IsTrue};
 ghost use Rattle.gf_token.specs.Label.{label_of};
+ghost use Rattle.gf_token.specs.NameBy.{name_by};
 ghost use Rattle.gf_nfg.specs.SameTable.{SamePlay};
 ghost use Rattle.gf_nfg.specs.inner.TextParts.{frame_by};
 
@@ -10,23 +11,22 @@ use crate::table::classes::Classes;
 use crate::table::frame::Frame;
 use crate::table::rows::Rows;
 use gf_fraction::Fraction;
-use gf_token::Label;
+use gf_token::{Label, Names};
 use std::alloc::{AllocError, Global};
 
-/// Whether two labels are the same, if they count.
-fn same_label(a: Label<'_>, b: Label<'_>, counts: bool) -> bool
-    ensures { IsTrue result ↔ ((if counts then label_of a.entry else [])
-        ≡ (if counts then label_of b.entry else [])) }
+/// Whether two names are the same, if they count.
+fn same_name(a: Label<'_>, b: Label<'_>, names: Names) -> bool
+    ensures { IsTrue result ↔ (name_by names (label_of a.entry) ≡ name_by names (label_of b.entry)) }
 {
-    !counts || a.raw() == b.raw()
+    names == Names::Aside || a.raw() == b.raw()
 }
 
-/// Whether both are the same; title and comment count if it is `named`.
-pub(crate) fn same_frame(a: &Frame, b: &Frame, named: bool) -> bool
-    ensures { IsTrue result ↔ (frame_by named a.now ≡ frame_by named b.now) }
+/// Whether both are the same; title and comment count if `names` are kept.
+pub(crate) fn same_frame(a: &Frame, b: &Frame, names: Names) -> bool
+    ensures { IsTrue result ↔ (frame_by names a.now ≡ frame_by names b.now) }
 {
-    same_label(a.title(), b.title(), named)
-        && same_label(a.comment(), b.comment(), named)
+    same_name(a.title(), b.title(), names)
+        && same_name(a.comment(), b.comment(), names)
         && a.plays_as(b)
 }
 

@@ -17,7 +17,7 @@ use crate::table::Table;
 use crate::text::ToldText;
 use crate::text::pieces::TextPieces;
 use crate::text::write::write_heading;
-use gf_token::{Fault, Why};
+use gf_token::{Fault, Names, Why};
 use std::alloc::{AllocError, Global};
 
 /// A text that ends with a line for each profile.
@@ -33,21 +33,21 @@ fn with_lines(alloc: Global, text: Vec<u8>, parts: Parts<'_>) -> Result<TextPiec
 }
 
 /// The canonical text of a strategic file, written while the file is read; title and comment are
-/// written empty unless it is `named`. In outcome version the line of each outcome is made at the
-/// end, and the lines of the profiles are copies of these, made piece by piece.
+/// written empty unless `names` are kept. In outcome version the line of each outcome is made at
+/// the end, and the lines of the profiles are copies of these, made piece by piece.
 ///
 /// # Errors
 ///
 /// Those of `read_nfg`; E19 if memory for the text is refused.
-pub fn canonical_nfg(alloc: Global, input: &[u8], named: bool) -> Result<TextPieces, Fault>
+pub fn canonical_nfg(alloc: Global, input: &[u8], names: Names) -> Result<TextPieces, Fault>
     ensures text { IfOk result (λ text. (t : Table) × SpellsTable input.now t × IsWithinLimit t
-        × (text.rest ≡ table_text (named_by named t))) }
+        × (text.rest ≡ table_text (named_by names t))) }
     ensures ungiven { IfOk result IsUngiven }
     ensures only { IfErr result (λ fault. (t : Table) → SpellsTable input.now t → IsWithinLimit t
         → fault.why ≡ Why.Memory) }
     ensures judged { IfErr result (λ fault. IsJudged fault.why input.now fault.span) }
 {
-    let mut text = ToldText::new(alloc, input.len(), named);
+    let mut text = ToldText::new(alloc, input.len(), names);
     let heading = tell_nfg(alloc, input, &mut text)?;
     let ToldText {
         text,
@@ -79,6 +79,6 @@ pub fn text_of(alloc: Global, t: Table) -> Result<TextPieces, AllocError>
         return TextPieces::of_table(alloc, frame, rows);
     }
     let mut text = Vec::new(alloc);
-    write_heading(&frame, true, &mut text)?;
+    write_heading(&frame, Names::Kept, &mut text)?;
     TextPieces::with_rows(alloc, text, rows)
 }

@@ -14,6 +14,7 @@ use crate::text::lines::{Lines, write_rows};
 use crate::text::lists::ListsWritten;
 use crate::text::rest::{MOST, PIECE, Rest};
 use crate::text::write::{write_ending, write_front};
+use gf_token::Names;
 use std::alloc::{AllocError, Global};
 use std::marker::Model;
 
@@ -111,9 +112,9 @@ impl TextPieces {
         ensures none { IfOk result (λ t. t.piece ≡ []) }
     {
         let mut piece = Vec::new(alloc);
-        write_front(&frame, true, &mut piece)?;
+        write_front(&frame, Names::Kept, &mut piece)?;
         let mut ending = Vec::new(alloc);
-        write_ending(&frame, true, &mut ending)?;
+        write_ending(&frame, Names::Kept, &mut ending)?;
         let line = frame.players().saturating_mul(MOST);
         let strategies = frame.into_lists();
         let longest = strategies.size().max(ending.len()).max(line);

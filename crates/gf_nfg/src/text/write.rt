@@ -1,8 +1,7 @@
 //! The canonical text of a table: Gambit's strategic format in payoff version, laid out by this
 //! project's profile.
 
-ghost use Rattle.std.specs.Prelude.{◌≡◌, ◌<◌, ◌++◌, [], OnErr, OnOk, if◌then◌else◌, map};
-ghost use Rattle.gf_token.specs.Label.{label_of};
+ghost use Rattle.std.specs.Prelude.{◌≡◌, ◌<◌, ◌++◌, OnErr, OnOk, map};
 ghost use Rattle.gf_nfg.specs.Spellable.{IsSpellable};
 ghost use Rattle.gf_nfg.specs.Table.{IsTable};
 ghost use Rattle.gf_nfg.specs.TableText.{SpellsTable, list_text, quoted, table_text};
@@ -13,7 +12,7 @@ use crate::table::Table;
 use crate::table::frame::Frame;
 use crate::text::lines::write_rows;
 use crate::text::lists::{ListsWritten, write_lists};
-use gf_token::{Label, write_label};
+use gf_token::{Names, write_label};
 use std::alloc::AllocError;
 
 /// Appends the players' names in braces.
@@ -31,25 +30,14 @@ fn write_players(frame: &Frame, out: &mut Vec<u8>) -> Result<(), AllocError>
     Ok(())
 }
 
-/// A label, or an empty one.
-fn label_by(named: bool, label: Label<'_>) -> Label<'_>
-    ensures { label_of result ≡ (if named then label_of label.entry else []) }
-{
-    if named {
-        label
-    } else {
-        Label::new(&[]).unwrap()
-    }
-}
-
 /// Appends what stands before the strategies: the first line and a brace.
-pub(crate) fn write_front(frame: &Frame, named: bool, out: &mut Vec<u8>) -> Result<(), AllocError>
+pub(crate) fn write_front(frame: &Frame, names: Names, out: &mut Vec<u8>) -> Result<(), AllocError>
     ensures text { OnOk result
-        (out.new.items ≡ out.old.items ++ front_text (frame_by named frame.now)) }
+        (out.new.items ≡ out.old.items ++ front_text (frame_by names frame.now)) }
     ensures kept { OnErr result (Keeps out.old.items out.new.items) }
 {
     out.extend_from_slice(b"NFG 1 R ")?;
-    write_label(label_by(named, frame.title()), out)?;
+    write_label(names.of(frame.title()), out)?;
     out.push(b' ')?;
     write_players(frame, out)?;
     out.extend_from_slice(b"\n{ ")?;
@@ -57,26 +45,30 @@ pub(crate) fn write_front(frame: &Frame, named: bool, out: &mut Vec<u8>) -> Resu
 }
 
 /// Appends what stands between the strategies and the payoffs: a brace and the comment.
-pub(crate) fn write_ending(frame: &Frame, named: bool, out: &mut Vec<u8>) -> Result<(), AllocError>
+pub(crate) fn write_ending(frame: &Frame, names: Names, out: &mut Vec<u8>) -> Result<(), AllocError>
     ensures text { OnOk result
-        (out.new.items ≡ out.old.items ++ ending_text (frame_by named frame.now)) }
+        (out.new.items ≡ out.old.items ++ ending_text (frame_by names frame.now)) }
     ensures kept { OnErr result (Keeps out.old.items out.new.items) }
 {
     out.extend_from_slice(b"}\n")?;
-    write_label(label_by(named, frame.comment()), out)?;
+    write_label(names.of(frame.comment()), out)?;
     out.extend_from_slice(b"\n\n")?;
     Ok(())
 }
 
-/// Appends everything before the payoffs; title and comment are empty unless it is `named`.
-pub(crate) fn write_heading(frame: &Frame, named: bool, out: &mut Vec<u8>) -> Result<(), AllocError>
+/// Appends everything before the payoffs; title and comment are empty unless `names` are kept.
+pub(crate) fn write_heading(
+    frame: &Frame,
+    names: Names,
+    out: &mut Vec<u8>,
+) -> Result<(), AllocError>
     ensures text { OnOk result
-        (out.new.items ≡ out.old.items ++ heading_text (frame_by named frame.now)) }
+        (out.new.items ≡ out.old.items ++ heading_text (frame_by names frame.now)) }
     ensures kept { OnErr result (Keeps out.old.items out.new.items) }
 {
-    write_front(frame, named, out)?;
+    write_front(frame, names, out)?;
     write_lists(frame.lists(), ListsWritten::nothing(), usize::MAX, out)?;
-    write_ending(frame, named, out)?;
+    write_ending(frame, names, out)?;
     Ok(())
 }
 
@@ -88,7 +80,7 @@ fn write_text(t: &Table, out: &mut Vec<u8>) -> Result<(), AllocError>
     ensures kept { OnErr result (Keeps out.old.items out.new.items) }
 {
     out.reserve(t.frame().room())?;
-    write_heading(t.frame(), true, out)?;
+    write_heading(t.frame(), Names::Kept, out)?;
     write_rows(t.rows(), out)
 }
 

@@ -1,7 +1,6 @@
 //! The runs that compare two files, over inputs that are open.
 
-ghost use Rattle.std.specs.Prelude.{false, true};
-ghost use Rattle.gf_run.specs.Run.{RunsTwo};
+ghost use Rattle.gf_run.specs.Run.{IsAnswerBy, RunsSameBy, RunsSameMap, RunsTwo};
 
 use crate::fault::{RunFault, Which};
 use crate::streams::sink::Sink;
@@ -21,7 +20,7 @@ pub(crate) fn run_comparison<R: Source, S: Source, W: Sink>(
     names: Names,
     output: &mut W,
 ) -> Result<bool, RunFault>
-    ensures { RunsTwo R.reader S.reader W.writer map names result a.old a.new b.old b.new
+    ensures { RunsTwo R.reader S.reader W.writer (IsAnswerBy map names) result a.old a.new b.old b.new
         output.old output.new }
 {
     let first = load(alloc, a, Which::First)?;
@@ -53,7 +52,7 @@ pub fn run_same_by<R: Source, S: Source, W: Sink>(
     names: Names,
     output: &mut W,
 ) -> Result<bool, RunFault>
-    ensures { RunsTwo R.reader S.reader W.writer false names result a.old a.new b.old b.new
+    ensures { RunsSameBy R.reader S.reader W.writer names result a.old a.new b.old b.new
         output.old output.new }
 {
     run_comparison(alloc, a, b, false, names, output)
@@ -74,7 +73,7 @@ pub fn run_same<R: Source, S: Source, W: Sink>(
     b: &mut S,
     output: &mut W,
 ) -> Result<bool, RunFault>
-    ensures { RunsTwo R.reader S.reader W.writer false Names.Kept result a.old a.new b.old b.new
+    ensures { RunsSameBy R.reader S.reader W.writer Names.Kept result a.old a.new b.old b.new
         output.old output.new }
 {
     run_same_by(alloc, a, b, Names::Kept, output)
@@ -101,7 +100,7 @@ pub fn run_same_map<R: Source, S: Source, W: Sink>(
     b: &mut S,
     output: &mut W,
 ) -> Result<bool, RunFault>
-    ensures { RunsTwo R.reader S.reader W.writer true Names.Kept result a.old a.new b.old b.new
+    ensures { RunsSameMap R.reader S.reader W.writer result a.old a.new b.old b.new
         output.old output.new }
 {
     run_comparison(alloc, a, b, true, Names::Kept, output)

@@ -1,6 +1,6 @@
 use Rattle.std.proofs.Common.{◌∙◌, Option, subst, sym}
 use Rattle.gf_canon.specs.NamesAside.{IsTextBy}
-use Rattle.gf_canon.specs.declared.sameness.Names.{Names}
+use Rattle.gf_token.specs.declared.names.Names.{Names}
 use Rattle.gf_calls.specs.Written.{IsWrittenBy}
 use Rattle.gf_calls.proofs.canonising.write_canonical.Goals as goal
 

@@ -1,5 +1,5 @@
 use Rattle.std.proofs.Common.{◌∙◌, Option, subst, sym}
-use Rattle.gf_canon.specs.declared.sameness.Names.{Names}
+use Rattle.gf_token.specs.declared.names.Names.{Names}
 use Rattle.gf_calls.specs.Compared.{IsComparedBy}
 use Rattle.gf_calls.proofs.comparing.compare.Goals as goal
 

@@ -3,5 +3,5 @@ use Rattle.gf_canon.proofs.canonise.text_of.Goals as goal
 
 pub returns-in-Strategic-clause-text : goal.returns-in-Strategic-clause-text
 returns-in-Strategic-clause-text c =
-    text_of_table (λ text. text.rest) c.args.names c.args.input.now c.are_kept.result
-    c.canonical_nfg.result c.are_kept.ensures c.canonical_nfg.ensures.text
+    text_of_table (λ text. text.rest) c.args.names c.args.input.now c.canonical_nfg.result
+    c.canonical_nfg.ensures.text

@@ -2,8 +2,7 @@
 use Rattle.gf_canon.proofs.Common.{◌≡◌, ℕ, List, Result, Ok, Err, IfOk, IfErr, MatchResult, Fault}
 use Rattle.gf_canon.proofs.Common.{Memory, Table, SpellsTable, GameFile, SpellsFile, canonical_text}
 use Rattle.gf_canon.proofs.Common.{strategic, IsRefusedWith, IsTextBy, SpellsWithin, file_by, Names}
-use Rattle.gf_canon.proofs.Common.{Bool, refl, ap, ◌∙◌, Kept, Aside, IsWithinLimit}
-use Rattle.gf_canon.specs.inner.NamedBy.{are_kept}
+use Rattle.gf_canon.proofs.Common.{refl, ◌∙◌, Kept, Aside, IsWithinLimit}
 use Rattle.gf_nfg.specs.NamedBy.{named_by}
 use Rattle.gf_nfg.specs.TableText.{table_text}
 use Rattle.gf_canon.proofs.lemmas.files.Texts.{spells_one_file}
@@ -23,18 +22,16 @@ module _ {A : Type 0} (items : A → List ℕ) (names : Names) (bytes : List ℕ
   only_answer (Ok a) x text refused h = text_is names bytes (items a) x text h.spelled
   only_answer (Err fault) x text refused h = refused.unless_memory x h
 
-  pub text_of_table : (named : Bool) (r : Result A Fault) → named ≡ are_kept names
-      → IfOk r (λ a. (t : Table) × SpellsTable bytes t × IsWithinLimit t
-      × (items a ≡ table_text (named_by named t)))
+  pub text_of_table : (r : Result A Fault) → IfOk r (λ a. (t : Table) × SpellsTable bytes t
+      × IsWithinLimit t × (items a ≡ table_text (named_by names t)))
       → IfOk r (λ a. IsTextBy names bytes (items a))
-  text_of_table named (Ok a) is h = record {
+  text_of_table (Ok a) h = record {
     file = strategic h.0;
     spelled = record { spelled = h.1; within = h.2 };
-    is_text = h.3 ∙ ap (λ b. table_text (named_by b h.0)) is ∙ by names;
+    is_text = h.3 ∙ by names;
   }
     where
-      by : (n : Names) → table_text (named_by (are_kept n) h.0)
-          ≡ canonical_text (file_by n (strategic h.0))
+      by : (n : Names) → table_text (named_by n h.0) ≡ canonical_text (file_by n (strategic h.0))
       by Kept = refl
       by Aside = refl
-  text_of_table named (Err fault) is h = tt
+  text_of_table (Err fault) h = tt

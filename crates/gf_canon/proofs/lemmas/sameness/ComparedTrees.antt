@@ -7,7 +7,6 @@ use Common.{IsTrue, IsGame, SameBy, Result, arith, false, subst, Table, Names, A
 use Common.{Game, Told, Kept, IfOk, refl, ◌≡◌, map, ◌∙◌, ◌↔◌, Err, ◌∷◌, [], ap, Ok, ℕ}
 use Rattle.gf_nfg.specs.SameTable.{SameTable}
 use Rattle.gf_nfg.specs.NamedBy.{named_by}
-use Rattle.gf_canon.specs.inner.NamedBy.{are_kept}
 use Rattle.gf_tree.proofs.Offered.{spelled_is_spellable}
 use Rattle.gf_canon.specs.inner.ComparedTrees.{AgreesWith, IsCompared}
 use Rattle.gf_canon.specs.MeaningOf.{file_of_listed}
@@ -59,14 +58,14 @@ no_game Kept t g = grind arith
 no_game Aside t g = grind arith
 
 -- a table that was told, compared with another
-pub same_as_table : {E : Type 0} (names : Names) (named : Bool) (t : Table) (bytes : List ℕ)
-    (r : Result (Result Bool E) Fault) → named ≡ are_kept names
+pub same_as_table : {E : Type 0} (names : Names) (t : Table) (bytes : List ℕ)
+    (r : Result (Result Bool E) Fault)
     → IfOk r (λ compared. (u : Table) × SpellsTable bytes u × IsWithinLimit u
-    × IfOk compared (λ answer. IsTrue answer ↔ SameTable (named_by named t) (named_by named u)))
+    × IfOk compared (λ answer. IsTrue answer ↔ SameTable (named_by names t) (named_by names u)))
     → IfOk r (λ compared. (y : GameFile) × SpellsWithin bytes y
     × IfOk compared (λ answer. IsTrue answer ↔ SameBy names (strategic t) y))
-same_as_table names named t bytes (Err fault) is h = tt
-same_as_table Kept named t bytes (Ok compared) is (u, spelled, within, same) =
-    (strategic u, record { spelled = spelled; within = within }, rw is at same)
-same_as_table Aside named t bytes (Ok compared) is (u, spelled, within, same) =
-    (strategic u, record { spelled = spelled; within = within }, rw is at same)
+same_as_table names t bytes (Err fault) h = tt
+same_as_table Kept t bytes (Ok compared) (u, spelled, within, same) =
+    (strategic u, record { spelled = spelled; within = within }, same)
+same_as_table Aside t bytes (Ok compared) (u, spelled, within, same) =
+    (strategic u, record { spelled = spelled; within = within }, same)

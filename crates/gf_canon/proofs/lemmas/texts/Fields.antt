@@ -1,11 +1,11 @@
 -- Lists in braces, and lines field by field.
 use Rattle.gf_canon.proofs.Common
-use Common.{flat_map-append, InformationSet, length-append, action_fields, if◌then◌else◌, list_text}
-use Common.{append_assoc, mover_fields, heading_text, length-drop, others_text, step_fields, length}
+use Common.{flat_map-append, InformationSet, action_fields, list_text}
+use Common.{append_assoc, mover_fields, heading_text, others_text, step_fields, length}
 use Common.{append-nil, lines_text, file_nodes, first_line, game_text, node_text, node_line, Option}
-use Common.{drop-set, take_all, flat_map, label_of, FileNode, decimal, Result, quoted, []}
-use Common.{spaced, SetKey, arith, is_ok, codes, zero, List, ◌++◌, drop, None, Some, refl, OnOk, ap}
-use Common.{heading_in, Heading, take, Game, ◌≡◌, suc, ◌+◌, ◌<◌, ◌∷◌, map, sym, ◌∙◌, ◌-◌, ◌≤◌, Err, set, Use, ◌^◌, Ok, ℕ}
+use Common.{flat_map, label_of, FileNode, decimal, quoted, []}
+use Common.{spaced, SetKey, arith, codes, zero, List, ◌++◌, None, Some, refl, ap}
+use Common.{heading_in, Heading, Game, ◌≡◌, suc, ◌<◌, ◌∷◌, map, sym, ◌∙◌, ◌≤◌, set, Use, ◌^◌, ℕ}
 use Rattle.gf_fraction.specs.NumberText.{number_text}
 use Rattle.std.proofs.lemmas.Fmt.{length-decimal-le}
 use Rattle.gf_fraction.specs.Ratio.{Ratio}
@@ -106,18 +106,3 @@ text_done g h left old heading out is e none lines =
 -- a number of 32 bits has ten digits at most
 pub ten_digits : (n : ℕ) → n < 2 ^ 32 → length (decimal n) ≤ 10
 ten_digits n h = length-decimal-le 10 n (omega arith) (omega arith) (omega arith)
-
-appended : {A E : Type 0} (r : Result A E) (old new x y : List ℕ)
-    → new ≡ (if is_ok r then old ++ x else old) → x ≡ y → OnOk r (new ≡ old ++ y)
-appended (Ok a) old new x y e f = e ∙ ap (λ (bs : List ℕ). old ++ bs) f
-appended (Err a) old new x y e f = tt
-
--- a space and the digits, which end at 11
-pub number_appended : {A E : Type 0} (r : Result A E) (old new text : List ℕ) (start m n : ℕ)
-    → m ≡ n → start + length (decimal m) ≡ 11 → 0 < length (decimal m) → length (decimal m) ≤ 10
-    → drop start text ≡ decimal m ++ []
-    → new ≡ (if is_ok r then old ++ take (11 - (start - 1))
-    (drop (start - 1) (set text (start - 1) 32)) else old)
-    → OnOk r (new ≡ old ++ 32 ∷ (decimal n ++ []))
-number_appended r old new text start m n is ends some short written e =
-    grind (arith, length-append, length-drop, drop-set, appended, take_all)

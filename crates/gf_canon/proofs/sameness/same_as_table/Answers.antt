@@ -9,5 +9,5 @@ returns-in_ok-tell_efg-in-Tree-clause-same c =
     (extensive t.0, record { spelled = t.1; within = tt }, no_game c.args.names c.args.t.now t.0)
 
 pub returns-in-Strategic-clause-same : goal.returns-in-Strategic-clause-same
-returns-in-Strategic-clause-same c = same_as_table c.args.names c.are_kept.result c.args.t.now
-    c.args.b.now c.compare_nfg.result c.are_kept.ensures c.compare_nfg.ensures.same
+returns-in-Strategic-clause-same c = same_as_table c.args.names c.args.t.now c.args.b.now
+    c.compare_nfg.result c.compare_nfg.ensures.same

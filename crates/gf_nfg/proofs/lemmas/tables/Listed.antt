@@ -4,8 +4,8 @@ use Rattle.gf_nfg.proofs.Common
 use Common.{IsWithinLimit, content_with, HasToldTable, SpellsTable, table_with, IsComplete, IsTable}
 use Common.{content_in, content_of, append-nil, length-map, IsCompared, MeansTable, slice_get, List}
 use Common.{SameTable, mul_comm, frame_in, table_of, named_by, frame_by, Content, Payoffs, Heading}
-use Common.{length, IsTrue, subst, arith, Ratio, Table, Frame, ◌++◌, rows, Some, Bool, true, ◌==◌}
-use Common.{drop, ◌≡◌, ◌<◌, ◌+◌, ◌∷◌, sym, ◌∙◌, ◌↔◌, [], ap, ℕ}
+use Common.{length, IsTrue, subst, arith, Ratio, Table, Frame, ◌++◌, rows, Some, Bool, Names, true}
+use Common.{◌==◌, drop, ◌≡◌, ◌<◌, ◌+◌, ◌∷◌, sym, ◌∙◌, ◌↔◌, [], ap, ℕ}
 use Rattle.gf_nfg.specs.inner.ListedTable.{IsListed, IsListing, listed}
 use Rattle.gf_nfg.specs.declared.listed.Body.{Body}
 use Rattle.gf_nfg.specs.declared.listed.Listing.{Listing}
@@ -69,23 +69,23 @@ module _ (bytes : List ℕ) (heading : Heading) (l : Listing)
 
 -- ---- the same table by its frame and rows
 
-module _ (named : Bool) (t u : Table) (ht : IsTable t) (hu : IsTable u) where
-  named_table : (t : Table) → IsTable t → IsTable (named_by named t)
+module _ (names : Names) (t u : Table) (ht : IsTable t) (hu : IsTable u) where
+  named_table : (t : Table) → IsTable t → IsTable (named_by names t)
   named_table t h = grind arith
 
   table_again : (t : Table) → IsTable t → table_with (own_frame t) (rows t) ≡ t
   table_again t h = grind (arith, entries_again)
 
   abbrev SameFrame : Type 0
-  SameFrame = frame_by named (own_frame t) ≡ frame_by named (own_frame u)
+  SameFrame = frame_by names (own_frame t) ≡ frame_by names (own_frame u)
 
-  pub same_by_rows : SameTable (named_by named t) (named_by named u)
+  pub same_by_rows : SameTable (named_by names t) (named_by names u)
       ↔ (SameFrame × (rows t ≡ rows u))
   same_by_rows = grind (
     arith,
-    same_is_equal (named_by named t) (named_by named u) (named_table t ht) (named_table u hu),
-    table_again (named_by named t) (named_table t ht),
-    table_again (named_by named u) (named_table u hu),
+    same_is_equal (named_by names t) (named_by names u) (named_table t ht) (named_table u hu),
+    table_again (named_by names t) (named_table t ht),
+    table_again (named_by names u) (named_table u hu),
   )
 
   -- payoffs of as many players and profiles are in the same rows
@@ -95,7 +95,7 @@ module _ (named : Bool) (t u : Table) (ht : IsTable t) (hu : IsTable u) where
       let second = rows_again (length u.players) (rows u) hu.one_payoff_each in
       grind (arith, entries_counted t ht, entries_counted u hu, length-map)
 
-  pub same_in_turn : SameTable (named_by named t) (named_by named u)
+  pub same_in_turn : SameTable (named_by names t) (named_by names u)
       ↔ (SameFrame × (joined (rows t) ≡ joined (rows u)))
   same_in_turn = grind (arith, same_by_rows, rows_parted)
 
@@ -123,13 +123,13 @@ module _ (t : Table) (bytes : List ℕ) (heading : Heading) (c : Comparison)
       let end = compared [] in
       grind (arith, append-nil)
 
-  pub told_compared : (named : Bool) (m n : Frame) → IsTable t → m ≡ own_frame t
+  pub told_compared : (names : Names) (m n : Frame) → IsTable t → m ≡ own_frame t
       → n ≡ frame_in (content_in heading) → c.version ≡ Payoffs
-      → SameTable (named_by named t) (named_by named (table_of other))
-      ↔ ((frame_by named m ≡ frame_by named n) × (IsTrue c.same × (c.left ≡ [])))
-  told_compared named m n ht mine theirs version = rw (mine, theirs) (
+      → SameTable (named_by names t) (named_by names (table_of other))
+      ↔ ((frame_by names m ≡ frame_by names n) × (IsTrue c.same × (c.left ≡ [])))
+  told_compared names m n ht mine theirs version = rw (mine, theirs) (
       let payoffs = payoffs_compared version in
-      let same = same_in_turn named t (table_of other) ht (is_table other h.means.complete) in
+      let same = same_in_turn names t (table_of other) ht (is_table other h.means.complete) in
       grind arith
       )
 

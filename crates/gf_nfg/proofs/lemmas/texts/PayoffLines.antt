@@ -3,7 +3,7 @@ use Rattle.gf_nfg.proofs.Common
 use Common.{flat_map-append, AllByRecursion, length-append, heading_text, append_assoc, first_line}
 use Common.{lines_text, table_text, line_text, list_text, nat_tests, named_by, frame_by}
 use Common.{row_text, lt-ltb, quoted, length, arith, Ratio, Table, Frame}
-use Common.{rows, true, Bool, List, refl, map, sym, ◌++◌, ◌≡◌, ◌∷◌, ◌-◌, ◌<◌, ◌≤◌, [], ℕ}
+use Common.{rows, Names, List, refl, map, sym, ◌++◌, ◌≡◌, ◌∷◌, ◌-◌, ◌<◌, ◌≤◌, [], ℕ}
 use Rattle.gf_nfg.specs.inner.TextParts.{payoffs_text}
 use Rattle.gf_fraction.specs.NumberText.{number_text}
 use Rattle.gf_nfg.proofs.lemmas.tables.Lists.{joined}
@@ -47,10 +47,10 @@ rows_laid width ((payoff ∷ row) ∷ rs) some h = grind (
 -- ---- the whole text
 
 -- a text is a heading and lines
-pub text_parts : (named : Bool) (t : Table) → table_text (named_by named t)
-    ≡ heading_text (frame_by named (frame_in t)) ++ lines_text (map row_text (rows t))
-text_parts named t =
-    let frame = frame_by named (frame_in t) in
+pub text_parts : (names : Names) (t : Table) → table_text (named_by names t)
+    ≡ heading_text (frame_by names (frame_in t)) ++ lines_text (map row_text (rows t))
+text_parts names t =
+    let frame = frame_by names (frame_in t) in
     let heads = first_line frame
     ∷ list_text (map (λ own. list_text (map quoted own)) frame.strategies)
     ∷ quoted frame.comment ∷ [] ∷ [] in
@@ -59,4 +59,4 @@ text_parts named t =
 -- a heading, and rows
 pub text_of_rows : (t : Table) (frame : Frame) (rs : List (List Ratio)) → frame ≡ frame_in t
     → rs ≡ rows t → heading_text frame ++ lines_text (map row_text rs) ≡ table_text t
-text_of_rows t frame rs n e = rw (n, e) (sym (text_parts true t))
+text_of_rows t frame rs n e = rw (n, e) (sym (text_parts Names.Kept t))

@@ -4,7 +4,7 @@ use Common.{IsWithinLimit, content_with, heading_text, HasToldTable, SpellsTable
 use Common.{append-nil, all_weaker, IsComplete, content_of, lines_text, table_text, MeansTable, suc}
 use Common.{laid_lines, frame_in, table_of, named_by, frame_by, row_text, mul_comm, Outcomes, arith}
 use Common.{Content, rows_by, rows_of, AreLaid, HasText, Heading, Payoffs, length, Ratio, Table, []}
-use Common.{zero, Bool, List, ◌++◌, refl, ◌*◌, ◌<◌, ◌∷◌, map, sym, ◌∙◌, ap, ℕ}
+use Common.{zero, Names, List, ◌++◌, refl, ◌*◌, ◌<◌, ◌∷◌, map, sym, ◌∙◌, ap, ℕ}
 use Rattle.gf_nfg.specs.inner.TextParts.{payoffs_text}
 use Rattle.gf_nfg.specs.declared.text.ToldText.{ToldText}
 use Rattle.gf_nfg.specs.declared.receive.Version.{Version}
@@ -29,10 +29,10 @@ laid_whole (suc k) n payoffs h one =
 -- ---- the whole
 
 -- with these lines after its heading it is the canonical text
-pub text_with : (named : Bool) (c : Content) (out : List ℕ) → IsComplete c
-    → out ≡ heading_text (frame_by named (frame_in c)) ++ lines_text
-    (map row_text (rows_by c c.choices)) → out ≡ table_text (named_by named (table_of c))
-text_with named c out h e = grind (arith, rows-table_of, text_parts named (table_of c))
+pub text_with : (names : Names) (c : Content) (out : List ℕ) → IsComplete c
+    → out ≡ heading_text (frame_by names (frame_in c)) ++ lines_text
+    (map row_text (rows_by c c.choices)) → out ≡ table_text (named_by names (table_of c))
+text_with names c out h e = grind (arith, rows-table_of, text_parts names (table_of c))
 
 lines_are : (c : Content) → IsComplete c → c.choices ≡ []
     → laid_lines (length c.players) c.payoffs ≡ lines_text (map row_text (rows_by c c.choices))
@@ -44,11 +44,11 @@ lines_end {text = text} {payoffs = payoffs} l =
     sym (append-nil text) ∙ rw (append-nil payoffs) at (l.with_more [])
 
 -- in payoff version the text is whole
-pub payoffs_written : (bytes : List ℕ) (heading : Heading) (named : Bool) (t : ToldText)
-    → t.version ≡ Payoffs → HasToldTable (HasText named) bytes heading t
+pub payoffs_written : (bytes : List ℕ) (heading : Heading) (names : Names) (t : ToldText)
+    → t.version ≡ Payoffs → HasToldTable (HasText names) bytes heading t
     → (u : Table) × SpellsTable bytes u × IsWithinLimit u
-    × (t.text.items ≡ table_text (named_by named u))
-payoffs_written bytes heading named t is h =
+    × (t.text.items ≡ table_text (named_by names u))
+payoffs_written bytes heading names t is h =
     let c = content_with heading h.payoffs h.numbers in
     let x = h.holding in
     let lines = lines_are c h.means.complete (h.unnumbered (sym x.version_is ∙ is)) in
@@ -56,22 +56,22 @@ payoffs_written bytes heading named t is h =
       table_of c,
       h.means.spelled,
       h.means.within,
-      text_with named c t.text.items h.means.complete
-          (end ∙ ap (λ (bs : List ℕ). heading_text (frame_by named (frame_in c)) ++ bs) lines),
+      text_with names c t.text.items h.means.complete
+          (end ∙ ap (λ (bs : List ℕ). heading_text (frame_by names (frame_in c)) ++ bs) lines),
     )
 
 -- in outcome version it ends before the lines
-pub record BeginsText (bytes : List ℕ) (named : Bool) (c : Content) (text : List ℕ) : Type 0 where
+pub record BeginsText (bytes : List ℕ) (names : Names) (c : Content) (text : List ℕ) : Type 0 where
   pub means : MeansTable bytes c
-  pub text_is : text ≡ heading_text (frame_by named (frame_in c))
+  pub text_is : text ≡ heading_text (frame_by names (frame_in c))
 
 is_outcomes : (v : Version) → ¬ (v ≡ Payoffs) → v ≡ Outcomes
 is_outcomes v not = grind arith
 
-pub outcomes_begin : (bytes : List ℕ) (heading : Heading) (named : Bool) (t : ToldText)
-    → ¬ (t.version ≡ Payoffs) → HasToldTable (HasText named) bytes heading t
-    → BeginsText bytes named (content_of (record { heading = heading; kept = t.kept })) t.text.items
-outcomes_begin bytes heading named t not h =
+pub outcomes_begin : (bytes : List ℕ) (heading : Heading) (names : Names) (t : ToldText)
+    → ¬ (t.version ≡ Payoffs) → HasToldTable (HasText names) bytes heading t
+    → BeginsText bytes names (content_of (record { heading = heading; kept = t.kept })) t.text.items
+outcomes_begin bytes heading names t not h =
     let x = h.holding in
     let kept = x.kept (is_outcomes t.version not) in
     record {

@@ -25,15 +25,10 @@ overflow_mul-value c =
 pub overflow_add-value : goal.overflow_add-value
 overflow_add-value c =
     let l = c.loop-byte in
-    let digits = length c.args.text.now in
-    let room =
-    has_room l.byte-index digits l.value (omega arith) l.invariant.short l.invariant.long in
-    omega (
+    grind (
       arith,
-      room,
-      c.in-Some.ensures.value.0,
-      c.in-Some.ensures.value.1,
-      c.from-in-loop-byte.ensures,
+      has_room l.byte-index (length c.args.text.now) l.value (omega arith) l.invariant.short
+          l.invariant.long,
     )
 
 pub loop-byte-preserved : goal.loop-byte-preserved

@@ -1,8 +1,7 @@
 use Rattle.std.proofs.Common.{◌≡◌, ◌<◌, ◌≤◌, ◌^◌, length, take, min}
 use Rattle.std.specs.Str.Parse.{AllDigits, digits_value}
-use Rattle.gf_token.proofs.index.read_index.Given as goal
 
-abbrev pub invariant-loop-byte : goal.invariant-loop-byte
+abbrev pub invariant-loop-byte : Rattle.gf_token.proofs.index.read_index.Given.invariant-loop-byte
 invariant-loop-byte l = record {
   digits : AllDigits 10 (take l.byte-index l.text);
   value : min l.value (2 ^ 32) ≡ min (digits_value 10 (take l.byte-index l.text)) (2 ^ 32);

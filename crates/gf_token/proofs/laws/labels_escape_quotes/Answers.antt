@@ -1,5 +1,4 @@
 use Rattle.gf_token.proofs.Labels.{said_of_quotes}
-use Rattle.gf_token.proofs.laws.labels_escape_quotes.Goals as goal
 
-pub returns : goal.returns
+pub returns : Rattle.gf_token.proofs.laws.labels_escape_quotes.Goals.returns
 returns c = said_of_quotes

@@ -1,5 +1,4 @@
 use Rattle.gf_token.proofs.Spans.{stands_in}
-use Rattle.gf_token.proofs.laws.spans_are_slices.Goals as goal
 
-pub returns : goal.returns
+pub returns : Rattle.gf_token.proofs.laws.spans_are_slices.Goals.returns
 returns c = stands_in

@@ -1,5 +1,4 @@
 use Rattle.gf_token.proofs.Spelled as lemmas
-use Rattle.gf_token.proofs.laws.spelled_once.Goals as goal
 
-pub returns : goal.returns
+pub returns : Rattle.gf_token.proofs.laws.spelled_once.Goals.returns
 returns c = lemmas.spelled_once

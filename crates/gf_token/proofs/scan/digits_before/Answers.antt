@@ -8,12 +8,7 @@ pub loop-at-init : goal.loop-at-init
 loop-at-init c = grind (arith, first_digits, first_value)
 
 pub overflow_mul-value : goal.overflow_mul-value
-overflow_mul-value c =
-    let i = c.loop-at.invariant in
-    let room = has_room c.args.input.now c.args.first c.loop-at.at c.loop-at.value
-    (omega (arith, i.begins)) (omega (arith, i.within, c.requires.within))
-    (omega (arith, i.begins, c.requires.few, c.loop-at-test.true)) i.digits i.value in
-    omega (arith, room)
+overflow_mul-value c = grind (arith, has_room)
 
 pub overflow_add-value : goal.overflow_add-value
 overflow_add-value c =

@@ -1,9 +1,8 @@
 use Rattle.std.proofs.Common.{◌≡◌, ◌≤◌, ◌<◌, ◌-◌}
 use Rattle.std.specs.Prelude.{slice_range}
 use Rattle.std.specs.Str.Parse.{AllDigits, digits_value}
-use Rattle.gf_token.proofs.scan.digits_before.Given as goal
 
-abbrev pub invariant-loop-at : goal.invariant-loop-at
+abbrev pub invariant-loop-at : Rattle.gf_token.proofs.scan.digits_before.Given.invariant-loop-at
 invariant-loop-at l = record {
   within : l.at ≤ l.stop;
   begins : l.first < l.at;
@@ -11,5 +10,5 @@ invariant-loop-at l = record {
   value : l.value ≡ digits_value 10 (slice_range l.input l.first l.at);
 }
 
-abbrev pub decreases-loop-at : goal.decreases-loop-at
+abbrev pub decreases-loop-at : Rattle.gf_token.proofs.scan.digits_before.Given.decreases-loop-at
 decreases-loop-at l = l.stop - l.at

@@ -1,8 +1,7 @@
 use Rattle.std.proofs.Common.{arith}
 use Rattle.gf_token.proofs.ScannedNumbers.{spaced_found}
-use Rattle.gf_token.proofs.scan.spaced_index.Goals as goal
 
-pub returns : goal.returns
+pub returns : Rattle.gf_token.proofs.scan.spaced_index.Goals.returns
 returns c =
     let d = c.digits_before-end in
     spaced_found c.args.input.now c.args.from d.result.0 d.result.1 c.index_of_value.result

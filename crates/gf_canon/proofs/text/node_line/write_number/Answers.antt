@@ -1,22 +1,15 @@
-use Rattle.gf_canon.proofs.Common.{arith}
-use Rattle.std.proofs.lemmas.Fmt.{decimal_nonempty, length-decimal-le}
-use Rattle.gf_canon.proofs.lemmas.texts.Fields.{number_appended, ten_digits}
+use Rattle.gf_canon.proofs.Common.{◌≡◌, ◌∷◌, ◌++◌, [], List, ℕ, append_assoc, arith, decimal, drop, refl}
+use Rattle.gf_canon.proofs.Common.{replicate}
+use Rattle.gf_canon.proofs.lemmas.texts.PlainLines.{tail_length}
 use Rattle.gf_canon.proofs.text.node_line.write_number.Goals as goal
-
-pub write_digits-start-requires : goal.write_digits-start-requires
-write_digits-start-requires c = grind (arith, length-decimal-le)
-
-pub overflow_sub-start : goal.overflow_sub-start
-overflow_sub-start c =
-    let short = ten_digits c.from.result (omega (arith, c.from.ensures, c.ranges.number.fits)) in
-    omega (arith, short, c.write_digits-start.ensures.start)
 
 pub returns-clause-text : goal.returns-clause-text
 returns-clause-text c =
-    let w = c.write_digits-start in
-    number_appended c.extend_from_slice.result c.args.out.now.items
-    c.extend_from_slice.new.self.items w.new.buf w.result c.from.result c.args.number
-    c.from.ensures w.ensures.start (decimal_nonempty c.from.result c.from.type_inv)
-    (ten_digits c.from.result (omega (arith, c.from.ensures, c.ranges.number.fits)))
-    w.ensures.written
-    c.extend_from_slice.ensures.items
+    let t = c.write_number_before-start in
+    let line : List ℕ = 32 ∷ (decimal c.args.number ++ []) in
+    let rest : List ℕ = drop 38 (replicate 76 0) in
+    let written : drop t.result t.new.text ≡ line ++ rest =
+    cc (t.ensures.written, append_assoc (decimal c.args.number) [] rest) in
+    c.append_from.ensures.ok line rest written
+    (tail_length t.new.text (replicate 76 0) line t.result (omega (arith, t.array_long)) refl
+    t.ensures.within.1 written)

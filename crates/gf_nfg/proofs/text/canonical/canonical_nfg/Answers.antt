@@ -6,26 +6,26 @@ use Rattle.gf_nfg.proofs.text.canonical.canonical_nfg.Goals as goal
 
 pub returns-then-eq-clause-text : goal.returns-then-eq-clause-text
 returns-then-eq-clause-text c =
-    let told = rw c.new-text.ensures.named at c.in_ok-heading.ensures.told in
-    let h = payoffs_written _ _ c.args.named c.tell_nfg.new.to (search rules) told in
+    let told = rw c.new-text.ensures.names at c.in_ok-heading.ensures.told in
+    let h = payoffs_written _ _ c.args.names c.tell_nfg.new.to (search rules) told in
     (h.0, h.1, h.2, c.of.ensures.rest ∙ h.3)
 
 pub returns-in-Ok-clause-text : goal.returns-in-Ok-clause-text
 returns-in-Ok-clause-text c =
     let content = content_of
     (record { heading = c.in_ok-heading.heading; kept = c.tell_nfg.new.to.kept }) in
-    let told = rw c.new-text.ensures.named at c.in_ok-heading.ensures.told in
-    let begun = outcomes_begin _ _ c.args.named c.tell_nfg.new.to (search rules) told in (
+    let told = rw c.new-text.ensures.names at c.in_ok-heading.ensures.told in
+    let begun = outcomes_begin _ _ c.args.names c.tell_nfg.new.to (search rules) told in (
       table_of content,
       begun.means.spelled,
       begun.means.within,
-      text_with c.args.named content c.in-Ok.text.rest begun.means.complete
+      text_with c.args.names content c.in-Ok.text.rest begun.means.complete
           (c.in-Ok.ensures.rest ∙ ap (λ (bs : List ℕ). bs ++ lines_text
           (map row_text (rows_by content content.choices))) begun.text_is),
     )
 
 pub returns-in-Err-clause-judged : goal.returns-in-Err-clause-judged
 returns-in-Err-clause-judged c =
-    let told = rw c.new-text.ensures.named at c.in_ok-heading.ensures.told in
-    let means = (outcomes_begin _ _ c.args.named c.tell_nfg.new.to (search rules) told).means in
+    let told = rw c.new-text.ensures.names at c.in_ok-heading.ensures.told in
+    let means = (outcomes_begin _ _ c.args.names c.tell_nfg.new.to (search rules) told).means in
     memory_at_end _ _ c.at_end.result Memory means.spelled means.within c.at_end.ensures refl
