@@ -6,7 +6,7 @@ import argparse
 import os
 import sys
 from contextlib import contextmanager, suppress
-from typing import BinaryIO, Callable, Iterator, List, NoReturn, Tuple
+from typing import BinaryIO, Callable, ContextManager, Iterator, List, NoReturn, Tuple, TypeVar
 from unicodedata import category
 
 from . import Error, GameFileError, TableError, __version__, _library
@@ -17,6 +17,7 @@ from .collection import game_files
 LIMIT = 16_777_216
 
 Answer = Callable[[str], str]
+Told = TypeVar("Told", bytes, str)
 
 
 class TooLong(Exception):
@@ -59,13 +60,15 @@ def about(name: str) -> Iterator[None]:
 
 
 @contextmanager
-def explained(asked: bool, name: str = "", data: bytes = b"") -> Iterator[None]:
-    """Puts a failure into words if that is asked for, by the name and the bytes of its file."""
+def explained(asked: bool, *files: Tuple[str, bytes]) -> Iterator[None]:
+    """Puts a failure into words if that is asked for, by the name and the bytes of its file, or of two."""
     try:
         yield
     except CAUSES as failure:
         if not asked:
             raise
+        is_second = isinstance(failure, GameFileError) and failure.which == "b"
+        name, data = files[is_second] if files else ("", b"")
         raise Explained(in_words(failure, name, data), failure) from failure
 
 
@@ -83,6 +86,8 @@ def in_words(failure: Exception, name: str, data: bytes) -> str:
     line, _ = described(failure)
     if isinstance(failure, GameFileError):
         return (explain(data, name=name) or line).removesuffix("\n")
+    if isinstance(failure, TableError):
+        return f"{line}: {failure.message}"
     if isinstance(failure, TooLong):
         return f"{shown(name)}: {line}: {_library.message(1, 0).decode()}"
     if isinstance(failure, Unwritten):
@@ -136,6 +141,11 @@ def tell(failure: Exception) -> int:
     return status
 
 
+def title(name: str) -> str:
+    """What one file is called where a failure is explained."""
+    return "<stdin>" if name == "-" else name
+
+
 def opened(name: str) -> BinaryIO:
     return open(0, "rb", closefd=False) if name == "-" else open(name, "rb")
 
@@ -148,14 +158,26 @@ def read(file: BinaryIO) -> bytes:
     return data
 
 
-def run_canon(options: argparse.Namespace) -> int:
-    write(canonical(read(opened(options.file)), names=options.names))
+def answered(file: str, name: str, explains: bool, answer: Callable[[bytes], Told]) -> Told:
+    """The answer to the bytes of a file, which has this name where a failure is explained."""
+    with explained(explains, (name, b"")):
+        data = read(opened(file))
+    with explained(explains, (name, data)):
+        return answer(data)
+
+
+def run_one(options: argparse.Namespace, answer: Callable[[bytes], bytes]) -> int:
+    """Writes the answer to one file."""
+    write(answered(options.file, title(options.file), options.explain, answer))
     return 0
+
+
+def run_canon(options: argparse.Namespace) -> int:
+    return run_one(options, lambda data: canonical(data, names=options.names))
 
 
 def run_table(options: argparse.Namespace) -> int:
-    write(table(read(opened(options.file)), reduced=options.reduced))
-    return 0
+    return run_one(options, lambda data: table(data, reduced=options.reduced))
 
 
 def files_of(name: str) -> Iterator[str]:
@@ -194,27 +216,22 @@ def hash_line(digest: str, name: str) -> str:
 
 
 def run_hash(options: argparse.Namespace) -> int:
+    def digest(data: bytes) -> str:
+        return key(data, names=options.names)
+
     return run_each(
         options.files or ["-"],
-        lambda name: hash_line(key(read(opened(name)), names=options.names), name),
+        lambda name: hash_line(answered(name, name, options.explain, digest), name),
     )
-
-
-def kind(file: str, name: str, explains: bool) -> str:
-    """What a file holds."""
-    with explained(explains, name):
-        data = read(opened(file))
-    with explained(explains, name, data):
-        return check(data)
 
 
 def run_check(options: argparse.Namespace) -> int:
     files = options.files or ["-"]
-    with explained(options.explain):
-        if len(files) > 1 or os.path.isdir(files[0]):
-            return run_each(files, lambda name: f"{name}: {kind(name, name, options.explain)}\n")
-        name = "<stdin>" if files[0] == "-" else files[0]
-        write(f"{kind(files[0], name, options.explain)}\n".encode())
+    if len(files) > 1 or os.path.isdir(files[0]):
+        return run_each(
+            files, lambda name: f"{name}: {answered(name, name, options.explain, check)}\n"
+        )
+    write(f"{answered(files[0], title(files[0]), options.explain, check)}\n".encode())
     return 0
 
 
@@ -232,15 +249,20 @@ def comparison(first: bytes, second: bytes, options: argparse.Namespace) -> Tupl
 
 
 def run_same(options: argparse.Namespace) -> int:
-    with about("A"):
+    def about_one(letter: str, name: str) -> ContextManager[None]:
+        """Says which file a failure is about: by its letter, or in words."""
+        return explained(True, (title(name), b"")) if options.explain else about(letter)
+
+    with about_one("A", options.a):
         first = opened(options.a)
-    with about("B"):
+    with about_one("B", options.b):
         second = opened(options.b)
-    with about("A"):
+    with about_one("A", options.a):
         a = read(first)
-    with about("B"):
+    with about_one("B", options.b):
         b = read(second)
-    answer, status = comparison(a, b, options)
+    with explained(options.explain, (title(options.a), a), (title(options.b), b)):
+        answer, status = comparison(a, b, options)
     write(answer.encode())
     return status
 
@@ -272,7 +294,8 @@ def parser() -> Parser:
         of_one.add_argument("file", metavar="FILE", nargs="?", default="-")
     for of_many in (checks, hashes):
         of_many.add_argument("files", metavar="FILE|FOLDER", nargs="*")
-    checks.add_argument("--explain", action="store_true", help="say what is wrong, and where")
+    for explaining in (canon, checks, tables, sames, hashes):
+        explaining.add_argument("--explain", action="store_true", help="say what is wrong, and where")
     tables.add_argument("--reduced", action="store_true", help="leave out choices that cannot matter")
     sames.add_argument("a", metavar="A")
     sames.add_argument("b", metavar="B")
@@ -291,8 +314,9 @@ def parser() -> Parser:
 def main(words: List[str]) -> int:
     options = parser().parse_args(words or ["canon"])
     try:
-        status: int = options.run(options)
-        return status
+        with explained(options.explain):
+            status: int = options.run(options)
+            return status
     except FAILURES as failure:
         return tell(failure)
 

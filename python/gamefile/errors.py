@@ -80,7 +80,9 @@ class TableError(Error, ArithmeticError):
     ...     gamefile.table(tree)
     ... except gamefile.TableError as error:
     ...     print(error.reason, error.profile)
+    ...     print(error.message)
     overflow 1
+    the expected payoffs at profile 1 cannot be worked out within 127 bits
     """
 
     #: Why there is none: the strategic form has more than 1,048,576 profiles, or a payoff cannot be
@@ -95,6 +97,13 @@ class TableError(Error, ArithmeticError):
         super().__init__(reason, profile)
         self.reason = reason
         self.profile = profile
+
+    @property
+    def message(self) -> str:
+        """Why there is none, in English."""
+        if self.profile is None:
+            return "the strategic form has more than 1,048,576 strategy profiles"
+        return f"the expected payoffs at profile {self.profile} cannot be worked out within 127 bits"
 
     def __str__(self) -> str:
         return self.reason if self.profile is None else f"{self.reason} at profile {self.profile}"

@@ -95,6 +95,31 @@ def test_check_explains():
         judge_all([["check", "--explain", *[file.name] * count] for count in (1, 2)])
 
 
+def test_other_commands_explain():
+    files = some_files()
+    commands = ["canon"], ["table"], ["table", "--reduced"], ["hash"], ["canon", "--no-names"]
+    found = judge_all([[*command, "--explain", file] for command in commands for file in files])
+    assert {status for _, _, status in found} == {0, 2}
+    said = b"".join(errors for _, errors, _ in found)
+    assert b"  hint: " in said and b"overflow at profile" in said and b"cannot be worked out" in said
+    refused = [file for file in files if not file.with_suffix(".out").exists()][:3]
+    for one in (*refused, files[0], "missing", "."):
+        for other in (*refused, files[0], "missing"):
+            judge_all([["same", "--explain", *option, one, other] for option in ([], ["--map"])])
+    judge(["hash", "--explain", *refused, "missing", "mis\x1b[31msing"])
+    for words in (["canon"], ["table"], ["hash"], ["same", "/dev/null"]):
+        judge([*words, "--explain", "-"], input=GAME[:-3])
+
+
+def test_too_many_profiles_in_words():
+    # One set of two actions for each of 21 players, one below another.
+    players = range(1, 22)
+    names = " ".join(f'"{player}"' for player in players)
+    moves = "".join(f'p "" {player} 1 "" {{ "l" "r" }} 0 t "" 0 ' for player in players)
+    tree = f'EFG 2 R "" {{ {names} }} {moves} t "" 0'.encode()
+    assert judge(["table", "--explain"], input=tree)[2] == 2
+
+
 def test_what_cannot_be_read():
     for name in ("missing", "."):
         for words in (["canon"], ["table"]):
