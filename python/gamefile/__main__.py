@@ -6,7 +6,7 @@ import argparse
 import os
 import sys
 from contextlib import contextmanager, suppress
-from typing import BinaryIO, Callable, ContextManager, Iterator, List, NoReturn, Tuple, TypeVar
+from typing import Callable, ContextManager, Iterator, List, NoReturn, Tuple, TypeVar
 from unicodedata import category
 
 from . import Error, GameFileError, TableError, __version__, _library
@@ -146,12 +146,13 @@ def title(name: str) -> str:
     return "<stdin>" if name == "-" else name
 
 
-def opened(name: str) -> BinaryIO:
-    return open(0, "rb", closefd=False) if name == "-" else open(name, "rb")
+def opened(name: str) -> int:
+    """The descriptor of a file. As in the program, a folder can be opened, and cannot be read."""
+    return 0 if name == "-" else os.open(name, os.O_RDONLY)
 
 
-def read(file: BinaryIO) -> bytes:
-    with file:
+def read(descriptor: int) -> bytes:
+    with open(descriptor, "rb", closefd=descriptor > 0) as file:
         data = file.read(LIMIT + 1)
     if len(data) > LIMIT:
         raise TooLong
