@@ -1,6 +1,6 @@
 -- The names that many lemmas of this crate cite, passed on from one place. Declares nothing.
 pub use Rattle.gf_canon.specs.CanonicalFile.{canonical_file}
-pub use Rattle.gf_canon.specs.CanonicalText.{IsCanonicalText, IsFileWithinLimit, SpellsWithin}
+pub use Rattle.gf_canon.specs.CanonicalText.{IsCanonicalText, SpellsWithin}
 pub use Rattle.gf_canon.specs.GameFile.{GameFile, SameFile, SpellsFile, canonical_text}
 pub use Rattle.gf_canon.specs.GameFile.GameFile.{extensive, strategic}
 pub use Rattle.gf_canon.specs.GameText.{action_fields, described_fields, game_text, mover_fields}
@@ -20,10 +20,9 @@ pub use Rattle.gf_canon.specs.declared.numbering.pairs.NumberPair.TheVariants.{O
 pub use Rattle.gf_token.specs.declared.names.Names.{Names}
 pub use Rattle.gf_token.specs.declared.names.Names.TheVariants.{Aside, Kept}
 pub use Rattle.gf_canon.specs.inner.NamedBy.{game_by, heading_by, node_by}
-pub use Rattle.gf_canon.specs.inner.NumberMaps.{number_of_set, numbers_in, set_order}
-pub use Rattle.gf_canon.specs.inner.TextParts.{first_line, heading_text, mover_letter, node_line}
-pub use Rattle.gf_canon.specs.inner.TextParts.{number_then, plain_line, player_letter, player_then}
-pub use Rattle.gf_canon.specs.inner.TextParts.{tail_text, told_text}
+pub use Rattle.gf_canon.specs.inner.NumberMaps.{noted, number_of_set, numbers_in, set_order}
+pub use Rattle.gf_canon.specs.inner.TextParts.{heading_text, mover_letter, number_then, first_line}
+pub use Rattle.gf_canon.specs.inner.TextParts.{plain_line, node_line, tail_text, told_text}
 pub use Rattle.gf_fraction.proofs.Offered.{all_images, all_weaker}
 pub use Rattle.gf_nfg.specs.Limit.{IsWithinLimit}
 pub use Rattle.gf_nfg.specs.Profiles.{numbers_from, positions}
@@ -36,27 +35,25 @@ pub use Rattle.gf_token.specs.LabelSpelling.{IsLabel}
 pub use Rattle.gf_token.specs.Place.{Begins, IsAccepted, IsAcceptedThrough, IsOffendingPlace}
 pub use Rattle.gf_token.specs.Place.{IsSpanOf, MayFollow, tokens_of}
 pub use Rattle.gf_token.specs.Positions.{at_position}
-pub use Rattle.gf_token.specs.Remaining.{Remaining, refusal}
-pub use Rattle.gf_token.specs.Token.{Lexeme, Token, lexeme}
+pub use Rattle.gf_token.specs.Remaining.{refusal}
+pub use Rattle.gf_token.specs.Token.{Lexeme, Token}
 pub use Rattle.gf_token.specs.Token.Token.{Bare, Text}
 pub use Rattle.gf_token.specs.TokenSpelling.{Spells}
 pub use Rattle.gf_token.specs.declared.fault.Fault.{Fault}
 pub use Rattle.gf_token.specs.declared.fault.Span.{Span}
 pub use Rattle.gf_token.specs.declared.fault.What.TheVariants.{Format}
 pub use Rattle.gf_token.specs.declared.fault.Why.{Why}
-pub use Rattle.gf_token.specs.declared.fault.Why.TheVariants.{TooManyProfiles, Unterminated, Memory}
-pub use Rattle.gf_token.specs.declared.fault.Why.TheVariants.{Expected}
-pub use Rattle.gf_tree.proofs.Offered.{canonical_is_game, canonical_twice, carries_to_canonical}
-pub use Rattle.gf_tree.proofs.Offered.{outcome_numbers_carried, same_by_canonical}
-pub use Rattle.gf_tree.proofs.Offered.{set_numbers_carried, entry_used, in_keys, flatten_map}
-pub use Rattle.gf_tree.proofs.Offered.{map_entry, outcomes_in_order, sets_in_order, AreDistinct}
-pub use Rattle.gf_tree.proofs.Offered.{first_uses_distinct, found, of_filter, was_used, held}
-pub use Rattle.gf_tree.proofs.Offered.{map_tree_twice, map_same, map_twice, outcome_number_positive}
-pub use Rattle.gf_tree.proofs.Offered.{agreed_games, set_number_positive, Agree, carried_outcomes}
-pub use Rattle.gf_tree.proofs.Offered.{carried_sets, only_outcomes, only_sets, same_back}
-pub use Rattle.gf_tree.proofs.Offered.{same_itself, same_on, same_set_equality, spells_one_game}
-pub use Rattle.gf_tree.proofs.Offered.{Has, IsEquality, all_of_each, contains, each, has, has_map}
-pub use Rattle.gf_tree.proofs.Offered.{equal_headings, equal_nodes, has_place, mapped_from}
+pub use Rattle.gf_token.specs.declared.fault.Why.TheVariants.{TooManyProfiles, Expected, Memory}
+pub use Rattle.gf_tree.proofs.Offered.{outcome_number_positive, outcome_numbers_carried, IsEquality}
+pub use Rattle.gf_tree.proofs.Offered.{carries_to_canonical, first_uses_distinct, canonical_is_game}
+pub use Rattle.gf_tree.proofs.Offered.{set_number_positive, set_numbers_carried, outcomes_in_order}
+pub use Rattle.gf_tree.proofs.Offered.{same_by_canonical, same_set_equality, canonical_twice, Agree}
+pub use Rattle.gf_tree.proofs.Offered.{spells_one_game, equal_headings, map_tree_twice, AreDistinct}
+pub use Rattle.gf_tree.proofs.Offered.{only_outcomes, sets_in_order, agreed_games, all_of_each, Has}
+pub use Rattle.gf_tree.proofs.Offered.{equal_nodes, flatten_map, mapped_from, same_itself, contains}
+pub use Rattle.gf_tree.proofs.Offered.{entry_used, has_place, map_entry, map_twice, of_filter, each}
+pub use Rattle.gf_tree.proofs.Offered.{only_sets, same_back, map_same, was_used, has_map, in_keys}
+pub use Rattle.gf_tree.proofs.Offered.{same_on, found, held, has}
 pub use Rattle.gf_tree.specs.CanonicalGame.{canonical_game}
 pub use Rattle.gf_tree.specs.Consistent.{AreConsistent, Describes, IsConsistent, IsDescribed}
 pub use Rattle.gf_tree.specs.Consistent.{IsFirstUse}
@@ -70,7 +67,7 @@ pub use Rattle.gf_tree.specs.FiniteMap.{Described, description_at, first_uses}
 pub use Rattle.gf_tree.specs.FirstUse.{first_use_numbers, first_use_number, sets_of}
 pub use Rattle.gf_tree.specs.KeysInOrder.{outcome_numbers, player_keys}
 pub use Rattle.gf_tree.specs.Game.{used_outcomes, outcome_at, used_sets, set_at, Game, Node}
-pub use Rattle.gf_tree.specs.IsGame.{HasChildren, IsGame}
+pub use Rattle.gf_tree.specs.IsGame.{IsGame}
 pub use Rattle.gf_tree.specs.GameOf.{IsGameOf, SpellsGame, keys_alone}
 pub use Rattle.gf_tree.specs.PrefixOrder.{Listed, flatten}
 pub use Rattle.gf_tree.specs.Renumbering.{HasOutcome, HasSet, IsRenumbering, Renumbering}
@@ -79,13 +76,12 @@ pub use Rattle.gf_tree.specs.SameGame.{Carries, SameGame}
 pub use Rattle.gf_tree.specs.Spellable.{IsSpellable, IsSpellableAction, IsSpellableOutcome}
 pub use Rattle.gf_tree.specs.Spellable.{IsSpellableSet}
 pub use Rattle.gf_tree.specs.Told.{Heading, Told, heading_in}
-pub use Rattle.gf_tree.specs.Unnamed.{unnamed_file_node, unnamed_outcome, unnamed_set, use_by}
-pub use Rattle.std.proofs.Common.{Bool, Err, Global, IfErr, IfOk, List, MatchResult, None, Ok, OnOk}
-pub use Rattle.std.proofs.Common.{Option, Result, Some, Vec, ap, append_assoc, arith, cond, drop}
-pub use Rattle.std.proofs.Common.{eqb, false, filter, get_or, inl, inr, is_ok, length}
-pub use Rattle.std.proofs.Common.{length-append, length-drop, map, refl, replicate, rules, set}
-pub use Rattle.std.proofs.Common.{subst, suc, sym, take, true, zero, ℕ, [], ◌++◌, ◌+◌, ◌-◌, ◌<◌}
-pub use Rattle.std.proofs.Common.{◌^◌, ◌∙◌, ◌∷◌, ◌≡◌, ◌≢◌, ◌≤◌}
+pub use Rattle.gf_tree.specs.Unnamed.{unnamed_outcome, unnamed_set, use_by}
+pub use Rattle.std.proofs.Common.{length-append, append_assoc, MatchResult, length-drop, replicate}
+pub use Rattle.std.proofs.Common.{Global, Option, Result, filter, get_or, length, IfErr, arith, Err}
+pub use Rattle.std.proofs.Common.{false, rules, subst, Bool, IfOk, List, None, OnOk, Some, cond, Ok}
+pub use Rattle.std.proofs.Common.{drop, refl, take, true, zero, ◌++◌, Vec, eqb, inl, inr, map, set}
+pub use Rattle.std.proofs.Common.{suc, sym, ◌+◌, ◌-◌, ◌<◌, ◌^◌, ◌∙◌, ◌∷◌, ◌≡◌, ◌≢◌, ◌≤◌, [], ap, ℕ}
 pub use Rattle.std.proofs.lemmas.Bool.{eqb-true, ne_eqb, or_cases}
 pub use Rattle.std.proofs.lemmas.Bool.Decides.{Decides-eqb, nat_tests}
 pub use Rattle.std.proofs.lemmas.Grind.{common_steps, flat_map-append}

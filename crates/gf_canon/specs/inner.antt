@@ -3,7 +3,6 @@ pub mod ComparedTrees
 pub mod KindWord
 pub mod ListedInOrder
 pub mod NamedBy
-pub mod Noted
 pub mod NumberMaps
 pub mod TextParts
 pub mod ToldFile

@@ -226,6 +226,7 @@ pub fn worked_texts()
 
 /// The game "five" by its first-use numbers; a copy by other numbers, and the only renumbering that
 /// carries one to the other.
+#[tactic(auto, using(crate::proofs::lemmas::sameness::Worked::five_same))]
 pub fn worked_numbers()
     ensures numbers { five ≡ numbered_five 9 7 3 4 }
     ensures first_uses { ((first_use_numbers five).set 0 9 ≡ 1)
@@ -239,6 +240,7 @@ pub fn worked_numbers()
 
 /// Worked games that are not the same: one set is not the same as two with equal descriptions, nor
 /// one outcome as two, nor no outcome as one that pays zero.
+#[tactic(auto, using(gf_tree::proofs::Offered::carried_sets, gf_tree::proofs::Offered::carried_outcomes))]
 pub fn worked_differences()
     ensures sets { ¬ (SameGame unseen seen) × ¬ (SameGame seen unseen) }
     ensures outcomes { ¬ (SameGame plain_prize two_prizes) × ¬ (SameGame two_prizes plain_prize) }
@@ -248,6 +250,7 @@ pub fn worked_differences()
 
 /// Other names of a worked game, its first node, its set and its outcome make another game, which
 /// is the same aside from names. Another label of an action makes another game in both senses.
+#[tactic(auto, using(gf_tree::proofs::Offered::same_itself))]
 pub fn worked_names()
     ensures other { ¬ (SameGame plain_prize renamed_prize) }
     ensures aside { SameAsideNames (extensive plain_prize) (extensive renamed_prize) }

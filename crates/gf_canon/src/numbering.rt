@@ -16,6 +16,7 @@ pub(crate) mod new_numbers;
 pub(crate) mod pairs;
 
 /// The numbers from 1 to `count`.
+#[tactic(auto, using(crate::proofs::lemmas::numbers::Canonical::number_more))]
 fn numbers_to(alloc: Global, count: usize) -> Result<Vec<u32>, AllocError>
     requires { count < 2 ^ 32 }
     ensures { IfOk result (λ numbers. numbers.items ≡ positions count) }
@@ -41,6 +42,7 @@ fn own_numbers(alloc: Global, g: &Game<'_>, player: usize) -> Result<Vec<u32>, A
 }
 
 /// The numbers of each player's sets, chance first.
+#[tactic(auto, using(crate::proofs::lemmas::numbers::Canonical::list_more))]
 fn set_numbers(alloc: Global, g: &Game<'_>) -> Result<Vec<Vec<u32>>, AllocError>
     ensures lists { IfOk result (λ lists.
         map (λ own. own.items) lists.items ≡ lists_in_order g.now) }

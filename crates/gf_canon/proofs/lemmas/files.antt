@@ -1,6 +1,5 @@
 pub mod EitherFormat
 pub mod Formats
-pub mod Headline
 pub mod Judged
 pub mod Refused
 pub mod RefusedOnce

@@ -4,4 +4,3 @@ pub mod NodesNamed
 pub mod Unnamed
 pub mod WalkedNodes
 pub mod Worked
-pub mod WorkedPairs

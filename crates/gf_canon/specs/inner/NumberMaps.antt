@@ -1,5 +1,5 @@
 -- The maps that new numbers are kept in.
-use Rattle.std.specs.Prelude.{ℕ, Option, map}
+use Rattle.std.specs.Prelude.{ℕ, Bool, Option, Some, if◌then◌else◌, map}
 use Rattle.std.specs.declared.cmp.Ordering.{Ordering}
 use Rattle.std.specs.Ordering.{nat_cmp, ordering_then}
 use Rattle.std.specs.BTreeMap.{BTreeMap, get}
@@ -20,3 +20,11 @@ numbers_in sets outcomes = record {
   sets = map (λ e. (set_of e.0.0 e.0.1, e.1)) sets.entries;
   outcomes = outcomes.entries;
 }
+
+-- What a map has after a key at one node was given the number of the key at another. had : what it
+-- had; number : the number of a key
+abbrev pub noted : {K : Type 0} → (K → K → Bool) → (K → ℕ) → Option K → Option K → (K → Option ℕ)
+    → K → Option ℕ
+noted same number (Some old) (Some new) had key =
+    if same old key then Some (number new) else had key
+noted same number _ _ had key = had key

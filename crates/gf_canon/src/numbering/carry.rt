@@ -7,8 +7,7 @@ ghost use Rattle.gf_tree.specs.Description.{SetKey, same_set, set_of};
 ghost use Rattle.gf_tree.specs.IsGame.{IsGame};
 ghost use Rattle.gf_tree.specs.NodeOf.{outcome_of, set_of_step};
 ghost use Rattle.gf_canon.specs.NewNumbers.{IsOnlyRenumbering};
-ghost use Rattle.gf_canon.specs.inner.Noted.{noted};
-ghost use Rattle.gf_canon.specs.inner.NumberMaps.{number_of_set};
+ghost use Rattle.gf_canon.specs.inner.NumberMaps.{noted, number_of_set};
 ghost use Rattle.gf_tree.specs.SameGame.{SameGame};
 
 use crate::numbering::new_numbers::Renumbering;

@@ -113,6 +113,7 @@ fn tell_outcomes<P: ReceivePairs>(g: &Game<'_>, h: &Game<'_>, to: &mut P) -> Res
 }
 
 /// Tells the pairs of the only renumbering that carries a game to another, if there is one.
+#[tactic(auto, using(crate::proofs::lemmas::numbers::PairsInTurn::player_more))]
 fn tell_pairs<P: ReceivePairs>(g: &Game<'_>, h: &Game<'_>, to: &mut P) -> Result<(), AllocError>
     ensures { OnOk result ((r : Renumbering) → Carries r g.now h.now → P.holds to.old []
         → (pairs : List NumberPair) × ((s : Renumbering) → Carries s g.now h.now

@@ -97,7 +97,7 @@ fn write_result(outcome: Option<OutcomeUse<'_, '_>>, out: &mut Vec<u8>) -> Resul
 
 /// Appends the line of a node that describes its set or its outcome.
 #[inline(never)]
-#[tactic(auto, using(crate::proofs::lemmas::texts::Fields::step_joined))]
+#[tactic(auto, using(crate::proofs::lemmas::texts::Fields::described_line))]
 fn write_described(node: &FileNode<'_, '_>, out: &mut Vec<u8>) -> Result<(), AllocError>
     ensures text { OnOk result
         (out.new.items ≡ out.old.items ++ node_line (file_node_of node.now)) }

@@ -21,6 +21,7 @@ pub(crate) const ROOM: usize = 2 * LINE_LEN;
 
 /// Writes a space and the digits of a number so that they end at `end`. Returns where they begin.
 #[inline(always)]
+#[tactic(auto, using(crate::proofs::lemmas::texts::Fields::digits_before))]
 pub(crate) fn write_number_before(end: usize, number: u32, text: &mut [u8; ROOM]) -> usize
     requires within { (11 ≤ end) × (end ≤ 38) }
     ensures within { (end ≤ result + 11) × (result ≤ end) }

@@ -45,6 +45,7 @@ pub(crate) fn write_heading(
 }
 
 /// Appends the heading of a game and its lines.
+#[tactic(auto, using(crate::proofs::lemmas::texts::Fields::text_done))]
 fn write_text(g: &Game<'_>, out: &mut Vec<u8>) -> Result<(), AllocError>
     ensures text { OnOk result (out.new.items ≡ out.old.items ++ game_text g.now) }
     ensures is_game { IsGame g.now }

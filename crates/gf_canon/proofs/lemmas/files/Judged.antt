@@ -2,15 +2,14 @@
 use Rattle.gf_canon.proofs.Common.{◌≡◌, ℕ, List, Result, Ok, Err, IfOk, IfErr, MatchResult, Fault}
 use Rattle.gf_canon.proofs.Common.{Memory, Table, SpellsTable, GameFile, SpellsFile, canonical_text}
 use Rattle.gf_canon.proofs.Common.{strategic, IsRefusedWith, IsTextBy, SpellsWithin, file_by, Names}
-use Rattle.gf_canon.proofs.Common.{refl, ◌∙◌, Kept, Aside, IsWithinLimit}
+use Rattle.gf_canon.proofs.Common.{IsWithinLimit, arith}
 use Rattle.gf_nfg.specs.NamedBy.{named_by}
 use Rattle.gf_nfg.specs.TableText.{table_text}
 use Rattle.gf_canon.proofs.lemmas.files.Texts.{spells_one_file}
 
 pub text_is : (names : Names) (bytes text : List ℕ) (x : GameFile) → IsTextBy names bytes text
     → SpellsFile bytes x → text ≡ canonical_text (file_by names x)
-text_is names bytes text x h spells =
-    cc (spells_one_file bytes h.file x h.spelled.spelled spells)
+text_is names bytes text x h spells = grind (arith, spells_one_file)
 
 -- items : what the text of an answer has
 module _ {A : Type 0} (items : A → List ℕ) (names : Names) (bytes : List ℕ) where
@@ -19,8 +18,7 @@ module _ {A : Type 0} (items : A → List ℕ) (names : Names) (bytes : List ℕ
       → SpellsWithin bytes x
       → MatchResult r (λ a. items a ≡ canonical_text (file_by names x))
       (λ fault. fault.why ≡ Memory)
-  only_answer (Ok a) x text refused h = text_is names bytes (items a) x text h.spelled
-  only_answer (Err fault) x text refused h = refused.unless_memory x h
+  only_answer r x text refused h = grind (arith, text_is)
 
   pub text_of_table : (r : Result A Fault) → IfOk r (λ a. (t : Table) × SpellsTable bytes t
       × IsWithinLimit t × (items a ≡ table_text (named_by names t)))
@@ -28,10 +26,6 @@ module _ {A : Type 0} (items : A → List ℕ) (names : Names) (bytes : List ℕ
   text_of_table (Ok a) h = record {
     file = strategic h.0;
     spelled = record { spelled = h.1; within = h.2 };
-    is_text = h.3 ∙ by names;
+    is_text = grind (arith, h.3);
   }
-    where
-      by : (n : Names) → table_text (named_by n h.0) ≡ canonical_text (file_by n (strategic h.0))
-      by Kept = refl
-      by Aside = refl
   text_of_table (Err fault) h = tt

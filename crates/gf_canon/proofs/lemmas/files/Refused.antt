@@ -1,15 +1,15 @@
 -- How a file is refused, by the refusal of its format.
+use Rattle.gf_canon.proofs.Common.{arith, rules}
 use Rattle.gf_canon.proofs.Common.{IsWithoutFormat, TooManyProfiles, BeginsWithWord, IsRefusedWith}
-use Rattle.gf_canon.proofs.Common.{SpellsWithin, extensive, strategic, IsJudged, GameFile, Memory}
-use Rattle.gf_canon.proofs.Common.{Result, Fault, codes, IfErr, List, Span, ◌≡◌, refl, Err, sym, Why}
-use Rattle.gf_canon.proofs.Common.{Ok, ℕ}
-use Rattle.gf_canon.specs.Judgement.IsJudged.{of_extensive, of_neither, of_strategic}
+use Rattle.gf_canon.proofs.Common.{SpellsWithin, extensive, strategic, GameFile, IsJudged, Memory}
+use Rattle.gf_canon.proofs.Common.{Result, Fault, IfErr, codes, List, Span, refl, Why, sym, ◌≡◌, ℕ}
+use Rattle.gf_canon.specs.Judgement.IsJudged.{of_extensive, of_strategic, of_neither}
 use Rattle.gf_canon.specs.declared.kind.FileKind.{FileKind}
 use Rattle.gf_canon.specs.inner.KindWord.{word_of}
 use Rattle.gf_canon.proofs.lemmas.files.EitherFormat.{placed}
-use Rattle.gf_canon.proofs.lemmas.files.Formats.{named_by_word, none_offending, two_words}
-use Rattle.gf_nfg.specs.Judgement as strategic_file
+use Rattle.gf_canon.proofs.lemmas.files.Formats.{none_offending, named_by_word, two_words}
 use Rattle.gf_nfg.proofs.Offered.{only_memory as only_memory_for_table}
+use Rattle.gf_nfg.specs.Judgement as strategic_file
 use Rattle.gf_tree.specs.Judgement as extensive_file
 
 -- bytes that mean a file are refused for lack of memory alone
@@ -28,33 +28,22 @@ only_memory why bytes span x j h =
 
 pub refused_with : (bytes : List ℕ) (fault : Fault) → IsJudged fault.why bytes fault.span
     → IsRefusedWith bytes fault
-refused_with bytes fault j = record {
-  judged = j;
-  placed = placed fault.why bytes fault.span j;
-  unless_memory = λ x. only_memory fault.why bytes fault.span x j;
-}
+refused_with bytes fault j = search (rules, placed, only_memory)
 
 pub refused_at_first : {A : Type 0} (bytes : List ℕ) (r : Result A Fault)
     → IfErr r (λ fault. IsWithoutFormat fault.why bytes fault.span) → IfErr r (IsRefusedWith bytes)
-refused_at_first bytes (Ok a) h = tt
-refused_at_first bytes (Err fault) h = refused_with bytes fault (of_neither h)
+refused_at_first bytes r h = grind (arith, refused_with)
 
 pub refused_game : {A : Type 0} (bytes : List ℕ) (r : Result A Fault) (kind : FileKind)
     → kind ≡ FileKind.Tree → BeginsWithWord (word_of kind) bytes
     → IfErr r (λ fault. extensive_file.IsJudged fault.why bytes fault.span)
     → IfErr r (IsRefusedWith bytes)
-refused_game bytes (Ok a) kind is named judged = tt
-refused_game bytes (Err fault) FileKind.Strategic is named judged = absurd cc
-refused_game bytes (Err fault) FileKind.Tree is named judged =
-    refused_with bytes fault (of_extensive named judged)
+refused_game bytes r kind is named judged = grind (arith, refused_with)
 
 pub refused_table : {A : Type 0} (bytes : List ℕ) (r : Result A Fault) (kind : FileKind)
     → kind ≡ FileKind.Strategic → BeginsWithWord (word_of kind) bytes
     → IfErr r (λ fault. strategic_file.IsJudged fault.why bytes fault.span)
     → IfErr r (IsRefusedWith bytes)
-refused_table bytes (Ok a) kind is named judged = tt
-refused_table bytes (Err fault) FileKind.Tree is named judged = absurd cc
-refused_table bytes (Err fault) FileKind.Strategic is named judged =
-    refused_with bytes fault (of_strategic named judged)
+refused_table bytes r kind is named judged = grind (arith, refused_with)
 
 pub ruleset refusals = (refused_at_first, refused_game, refused_table)

@@ -1,5 +1,5 @@
 -- Game files of both kinds: their canonical texts are equal exactly when they are the same.
-use Rattle.gf_canon.proofs.Common.{◌≡◌, ℕ, List, refl, ap, subst, arith, ◌↔◌, same_tokens, Table}
+use Rattle.gf_canon.proofs.Common.{◌≡◌, ℕ, List, ap, subst, arith, ◌↔◌, same_tokens}
 use Rattle.gf_canon.proofs.Common.{Game, IsGame, SpellsGame, IsSpellable, spells_one_game}
 use Rattle.gf_canon.proofs.Common.{canonical_game, game_text, GameFile, IsGameFile, SpellsFile}
 use Rattle.gf_canon.proofs.Common.{SameFile, canonical_file, canonical_text, extensive, strategic}
@@ -12,20 +12,9 @@ use Rattle.gf_canon.proofs.lemmas.files.Formats.{file_word, tokens_in, two_words
 use Rattle.gf_canon.proofs.lemmas.texts.ReadsBack.{text_reads_back}
 use Rattle.gf_canon.proofs.lemmas.texts.Spellables.{canonical_is_spellable}
 
-one_game : (g h : Game) → extensive g ≡ extensive h → g ≡ h
-one_game g h e = cc
-
-one_table : (t u : Table) → strategic t ≡ strategic u → t ≡ u
-one_table t u e = cc
-
 pub same_by_canonical_file : (a b : GameFile) → IsGameFile a → IsGameFile b
     → SameFile a b ↔ (canonical_file a ≡ canonical_file b)
-same_by_canonical_file (extensive g) (extensive h) game game' =
-    grind (arith, same_by_canonical, one_game)
-same_by_canonical_file (strategic t) (strategic u) table table' =
-    grind (arith, same_is_equal, one_table)
-same_by_canonical_file (extensive g) (strategic u) game table = (λ c. absurd c, λ e. cc)
-same_by_canonical_file (strategic t) (extensive h) table game = (λ c. absurd c, λ e. cc)
+same_by_canonical_file a b first second = grind (arith, same_by_canonical, same_is_equal)
 
 -- ---- texts
 
@@ -35,8 +24,7 @@ file_text (extensive g) = game_text g
 file_text (strategic t) = table_text t
 
 of_canonical : (x : GameFile) → canonical_text x ≡ file_text (canonical_file x)
-of_canonical (extensive g) = refl
-of_canonical (strategic t) = refl
+of_canonical x = grind arith
 
 pub equal_game_texts : (g h : Game) → IsGame g → IsSpellable g → IsGame h → IsSpellable h
     → (game_text g ≡ game_text h) ↔ (g ≡ h)
@@ -51,19 +39,13 @@ equal_game_texts g h game can game' can' = (
 
 one_word : (bytes : List ℕ) (x y : GameFile) → SpellsFile bytes x → SpellsFile bytes y
     → file_word x ≡ file_word y
-one_word bytes x y p q =
-    let own = tokens_in bytes x p in
-    let other = tokens_in bytes y q in
-    cc (same_tokens bytes own.lexemes other.lexemes own.spelled other.spelled, own.word, other.word)
+one_word bytes x y p q = grind (arith, tokens_in, same_tokens)
 
 pub spells_one_file : (bytes : List ℕ) (x y : GameFile) → SpellsFile bytes x → SpellsFile bytes y
     → x ≡ y
 spells_one_file bytes (extensive g) (extensive h) p q = ap extensive (spells_one_game bytes g h p q)
 spells_one_file bytes (strategic t) (strategic u) p q = cc (spells_one_table bytes t u p q)
-spells_one_file bytes (extensive g) (strategic u) p q =
-    absurd (two_words (one_word bytes (extensive g) (strategic u) p q))
-spells_one_file bytes (strategic t) (extensive h) p q =
-    absurd (two_words (one_word bytes (extensive h) (strategic t) q p))
+spells_one_file bytes x y p q = grind (arith, two_words, one_word bytes x y p q)
 
 -- ---- the canonical text of what bytes mean
 
@@ -81,8 +63,7 @@ is_game_file bytes (strategic t) h = (spelled_table bytes t h).0
 
 pub text_twice : (x : GameFile) → IsGameFile x
     → canonical_text (canonical_file x) ≡ canonical_text x
-text_twice (extensive g) game = ap game_text (canonical_twice g game)
-text_twice (strategic t) table = refl
+text_twice x file = grind (arith, canonical_twice)
 
 pub canonical_again : (bytes : List ℕ) (x y : GameFile)
     → SpellsFile bytes x → SpellsFile (canonical_text x) y → canonical_text y ≡ canonical_text x
@@ -92,14 +73,8 @@ canonical_again bytes x y h k =
 pub equal_canonical_texts : (a b : List ℕ) (x y : GameFile) → SpellsFile a x → SpellsFile b y
     → (canonical_text x ≡ canonical_text y) ↔ SameFile x y
 equal_canonical_texts a b x y h k =
-    grind (
-      arith,
-      same_by_canonical_file,
-      is_game_file,
-      spells_one_file,
-      canonical_reads_back,
-      of_canonical,
-    )
+    let same = same_by_canonical_file x y (is_game_file a x h) (is_game_file b y k) in
+    grind (arith, spells_one_file, canonical_reads_back, of_canonical)
 
 -- ---- laws
 

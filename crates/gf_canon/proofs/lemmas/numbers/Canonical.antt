@@ -5,7 +5,7 @@ use Common.{IsSpellableSet, canonical_game, used_outcomes, numbers_from, agreed_
 use Common.{player_keys, IsSpellable, get_or-map, length-map, map-append, renumbered, IsEquality, ℕ}
 use Common.{positions, Described, same_set, in_keys, length, get_or, filter, Global, ne_eqb, SetKey}
 use Common.{IsGame, nat_eq, arith, Agree, zero, Bool, List, ◌++◌, refl, ◌==◌, Game, ◌≡◌, suc, ◌+◌}
-use Common.{◌<◌, ◌≤◌, ◌^◌, ◌∷◌, map, Vec, inl, inr, sym, ◌∙◌, Has, has, [], ap}
+use Common.{◌<◌, ◌≤◌, ◌^◌, ◌∷◌, map, Vec, Has, has, []}
 use Rattle.gf_nfg.proofs.Offered.{get_or-numbers_from, length-numbers_from, numbers_joined}
 use Rattle.gf_tree.specs.ListedNumbers.{AreListed, AreNumbers, listed_numbers, number_listed}
 use Rattle.gf_tree.proofs.Offered.{own_key, some_player}
@@ -21,16 +21,13 @@ number_more n numbers more is e = let joined = numbers_joined 1 n 1 in grind ari
 
 no_less : (first n x : ℕ) → Has (numbers_from first n) x → first ≤ x
 no_less first zero x h = absurd h
-no_less first (suc n) x (inl e) = omega (arith, e)
-no_less first (suc n) x (inr h) = omega (arith, no_less (first + 1) n x h)
+no_less first (suc n) x h = grind (arith, no_less (first + 1) n x)
 
 are_numbers : (first n : ℕ) → 0 < first → AreNumbers (numbers_from first n)
 are_numbers first zero h = tt
-are_numbers first (suc n) h = (
-  h,
-  λ c. omega (arith, no_less (first + 1) n first (has (numbers_from (first + 1) n) first c)),
-  are_numbers (first + 1) n (omega arith),
-)
+are_numbers first (suc n) h =
+    let rest = are_numbers (first + 1) n (omega arith) in
+    grind (arith, no_less (first + 1) n first, has)
 
 -- ---- a player past the last number has no sets
 
@@ -41,9 +38,7 @@ none_of_him player (s ∷ sets) past h = grind (arith, ne_eqb, none_of_him playe
 
 pub no_numbers : (g : Game) (player : ℕ) → 2 ^ 32 ≤ player → IsSpellable g
     → [] ≡ positions (length (player_keys g player))
-no_numbers g player past can =
-    ap (λ (ss : List (Described SetKey InformationSet)). positions (length (map (λ s. s.key) ss)))
-    (sym (none_of_him player g.sets past can.sets))
+no_numbers g player past can = grind (arith, none_of_him)
 
 -- ---- the lists of the players
 
@@ -75,24 +70,14 @@ all_numbers g (player ∷ players) =
 listed_in_order : (g : Game)
     → AreListed g (lists_in_order g) (positions (length (outcome_numbers g)))
 listed_in_order g =
-    let players = numbers_from 0 (suc (length g.players)) in
-    record {
-      one_list_each = length-map players (own_list g)
-          ∙ length-numbers_from 0 (suc (length g.players));
-      each_set = λ player h. ap length (own_there g player h)
-          ∙ length-numbers_from 1 (length (player_keys g player));
-      set_numbers = all_numbers g players;
-      each_outcome = length-numbers_from 1 (length (outcome_numbers g));
-      outcome_numbers = are_numbers 1 (length (outcome_numbers g)) (omega arith);
-    }
+    grind (arith, length-map, length-numbers_from, own_there, all_numbers, are_numbers)
 
 -- ---- listed numbers are first-use numbers
 
 number_of_map : {K : Type 0} (same : K → K → Bool) → IsEquality same → (f : K → ℕ) (ks : List K)
     (key : K) → Has ks key → number_listed same ks (map f ks) key ≡ f key
 number_of_map same tells f [] key h = absurd h
-number_of_map same tells f (k ∷ ks) key h =
-    grind (arith, tells, number_of_map same tells f ks key)
+number_of_map same tells f (k ∷ ks) key h = grind (arith, tells, number_of_map same tells f ks key)
 
 listed_agree : (g : Game) → IsGame g
     → Agree (listed_numbers g (lists_in_order g) (positions (length (outcome_numbers g))))
@@ -104,28 +89,17 @@ listed_agree g game =
       sets = λ key i.
           let keys = player_keys g key.player in
           let number : SetKey → ℕ = λ k. (first_use_numbers g).set key.player k.number in
-          let player = some_player g game (lists_in_order g) outcomes listed key i in
-          let is : number_listed same_set keys (get_or (lists_in_order g) key.player []) key
-          ≡ number key =
-          ap (λ (ns : List ℕ). number_listed same_set keys ns key)
-          (own_there g key.player player ∙ sym (sets_in_order g key.player game))
-          ∙ number_of_map same_set same_set_equality number keys key
+          let is = number_of_map same_set same_set_equality number keys key
           (own_key g game (lists_in_order g) outcomes listed key i) in
-          λ j. record { player = key.player; number = is j };
+          let there = own_there g key.player
+          (some_player g game (lists_in_order g) outcomes listed key i) in
+          grind (arith, sets_in_order g key.player game);
       outcomes = λ number i.
-          ap (λ (ns : List ℕ). number_listed nat_eq (outcome_numbers g) ns number)
-          (sym (outcomes_in_order g game))
-          ∙ number_of_map nat_eq Decides-eqb (first_use_numbers g).outcome (outcome_numbers g)
-          number (in_keys nat_eq Decides-eqb (used_outcomes g.tree) g.outcomes number
-          game.one_entry_each_outcome i);
+          let is = number_of_map nat_eq Decides-eqb (first_use_numbers g).outcome
+          (outcome_numbers g) number (in_keys nat_eq Decides-eqb (used_outcomes g.tree) g.outcomes
+          number game.one_entry_each_outcome i) in
+          grind (arith, outcomes_in_order g game);
     }
-
-canonical_by_lists : (g : Game) → IsGame g
-    → renumbered (listed_numbers g (lists_in_order g) (positions (length (outcome_numbers g)))) g
-    ≡ canonical_game g
-canonical_by_lists g game =
-    agreed_games (listed_numbers g (lists_in_order g) (positions (length (outcome_numbers g))))
-    (first_use_numbers g) g game (listed_agree g game)
 
 -- ---- as vectors
 
@@ -137,4 +111,4 @@ pub canonical_by : (g : Game) (lists : List (List ℕ)) (outcomes : List ℕ) �
     → lists ≡ lists_in_order g → outcomes ≡ positions (length (outcome_numbers g))
     → renumbered (listed_numbers g lists outcomes) g ≡ canonical_game g
 canonical_by g lists outcomes game e f =
-    (λ i. renumbered (listed_numbers g (e i) (f i)) g) ∙ canonical_by_lists g game
+    rw (e, f) (agreed_games _ (first_use_numbers g) g game (listed_agree g game))

@@ -1,9 +1,8 @@
 -- Two renumberings that carry a game to another have the same pairs.
-use Rattle.gf_canon.proofs.Common.{outcome_numbers_carried, set_numbers_carried, renumbering_pairs}
-use Rattle.gf_canon.proofs.Common.{outcome_numbers, outcome_pairs, numbers_from, player_keys, List}
-use Rattle.gf_canon.proofs.Common.{Renumbering, set_numbers, NumberPair, map_twice, set_pairs, ◌++◌}
-use Rattle.gf_canon.proofs.Common.{flat_map, Carries, Outcome, length, SetKey, IsGame, refl, Game}
-use Rattle.gf_canon.proofs.Common.{◌≡◌, suc, ◌∷◌, map, sym, ◌∙◌, Set, [], ℕ}
+use Rattle.gf_canon.proofs.Common
+use Common.{outcome_numbers_carried, set_numbers_carried, renumbering_pairs, outcome_numbers, arith}
+use Common.{outcome_pairs, Renumbering, player_keys, set_numbers, NumberPair, map_twice, set_pairs}
+use Common.{Carries, Outcome, IsGame, SetKey, Game, List, refl, Set, map, sym, ◌∙◌, ◌∷◌, ◌≡◌, [], ℕ}
 
 module _ (r : Renumbering) (g h : Game) (games : IsGame g × IsGame h) (c : Carries r g h) where
   pub numbers_carried : (player : ℕ)
@@ -16,10 +15,7 @@ module _ (pair : ℕ → ℕ → NumberPair) (f e : ℕ → ℕ) where
   same_pairs : (ns : List ℕ) → map f ns ≡ map e ns
       → map (λ n. pair n (f n)) ns ≡ map (λ n. pair n (e n)) ns
   same_pairs [] is = refl
-  same_pairs (n ∷ ns) is =
-      let first : f n ≡ e n = cc in
-      let rest : map f ns ≡ map e ns = cc in
-      λ i. pair n (first i) ∷ same_pairs ns rest i
+  same_pairs (n ∷ ns) is = grind (arith, same_pairs ns)
 
 module _ (g h : Game) (games : IsGame g × IsGame h) (r s : Renumbering) (c : Carries r g h)
     (d : Carries s g h) where
@@ -35,6 +31,4 @@ module _ (g h : Game) (games : IsGame g × IsGame h) (r s : Renumbering) (c : Ca
       ∙ outcome_numbers_carried s g h games.0 games.1 d)
 
   pub only_pairs : renumbering_pairs r g ≡ renumbering_pairs s g
-  only_pairs = λ i.
-      flat_map (λ player. same_sets player i) (numbers_from 0 (suc (length g.players)))
-      ++ same_outcomes i
+  only_pairs = grind (arith, same_sets, same_outcomes)

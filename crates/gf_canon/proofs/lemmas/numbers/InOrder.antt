@@ -4,8 +4,8 @@ use Rattle.gf_canon.proofs.Common.{first_use_numbers, same_set_equality, first_u
 use Rattle.gf_canon.proofs.Common.{outcome_numbers, length-append, used_outcomes, append_assoc, ◌≡◌}
 use Rattle.gf_canon.proofs.Common.{numbers_from, Decides-eqb, player_keys, first_uses, IsEquality}
 use Rattle.gf_canon.proofs.Common.{positions, used_sets, of_filter, same_set, was_used, map_same, ℕ}
-use Rattle.gf_canon.proofs.Common.{sets_of, length, nat_eq, SetKey, IsGame, arith, subst, Bool, ◌+◌}
-use Rattle.gf_canon.proofs.Common.{List, ◌++◌, refl, Game, ◌∷◌, map, sym, ◌∙◌, Has, []}
+use Rattle.gf_canon.proofs.Common.{sets_of, length, nat_eq, IsGame, arith, Bool, ◌+◌}
+use Rattle.gf_canon.proofs.Common.{List, ◌++◌, refl, Game, ◌∷◌, map, ◌∙◌, []}
 use Rattle.gf_tree.proofs.Offered.{number_at, sets_by_first_use}
 
 numbers_on : {K : Type 0} (same : K → K → Bool)
@@ -13,9 +13,8 @@ numbers_on : {K : Type 0} (same : K → K → Bool)
     → map (first_use_number same ks) after ≡ numbers_from (length before + 1) (length after)
 numbers_on same tells ks before [] e = refl
 numbers_on same tells ks before (key ∷ after) e =
-    let here = number_at same tells ks before after key e in
     let rest = numbers_on same tells ks (before ++ key ∷ []) after in
-    grind (arith, append_assoc, length-append)
+    grind (arith, number_at, append_assoc, length-append)
 
 pub numbered_in_order : {K : Type 0} (same : K → K → Bool) → IsEquality same → (ks : List K)
     → map (first_use_number same ks) (first_uses same ks)
@@ -28,22 +27,11 @@ pub sets_in_order : (g : Game) (player : ℕ) → IsGame g
     → map (λ key. (first_use_numbers g).set player key.number) (player_keys g player)
     ≡ positions (length (player_keys g player))
 sets_in_order g player game =
-    subst (λ keys.
-    map (λ key. (first_use_numbers g).set player key.number) keys ≡ positions (length keys))
-    (sym (sets_by_first_use g player game))
+    let own = sets_of player (used_sets g.tree) in
+    rw (sets_by_first_use g player game)
     (map_same (λ key. (first_use_numbers g).set player key.number) (first_use_number same_set own)
-    (first_uses same_set own) number
+    (first_uses same_set own) (λ key i. grind (arith, eqb-true, of_filter, was_used))
     ∙ numbered_in_order same_set same_set_equality own)
-  where
-    own : List SetKey
-    own = sets_of player (used_sets g.tree)
-
-    number : (key : SetKey) → Has (first_uses same_set own) key
-        → (first_use_numbers g).set player key.number ≡ first_use_number same_set own key
-    number key i =
-        let mine = of_filter (λ (k : SetKey). nat_eq k.player player) (used_sets g.tree) key
-        (was_used same_set own key i) in
-        grind (arith, eqb-true)
 
 pub outcomes_in_order : (g : Game) → IsGame g
     → map (first_use_numbers g).outcome (outcome_numbers g) ≡ positions (length (outcome_numbers g))

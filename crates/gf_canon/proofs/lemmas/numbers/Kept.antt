@@ -1,8 +1,7 @@
 -- What the maps of new numbers have at a set and at an outcome.
-use Rattle.gf_canon.proofs.Common.{◌≡◌, ℕ, List, [], ◌∷◌, Some, refl, arith, cond, map, is_eq}
-use Rattle.gf_canon.proofs.Common.{nat_cmp, nat_eq, nat_tests, same_set, set_of, set_order}
-use Rattle.gf_canon.proofs.Common.{BTreeMap, get, new_outcome_number, new_set_number}
-use Rattle.gf_canon.proofs.Common.{numbers_in, suc}
+use Rattle.gf_canon.proofs.Common.{new_outcome_number, new_set_number, numbers_in, nat_tests, arith}
+use Rattle.gf_canon.proofs.Common.{set_order, BTreeMap, same_set, nat_cmp, nat_eq, set_of, is_eq, ℕ}
+use Rattle.gf_canon.proofs.Common.{List, Some, cond, refl, get, map, suc, ◌∷◌, ◌≡◌, []}
 use Rattle.std.specs.Map.{lookup}
 
 -- two pairs compare equal exactly when they are
@@ -19,8 +18,7 @@ set_in (e ∷ es) k = λ i. cond (same_pair k e.0 i) (Some e.1) (set_in es k i)
 
 outcome_in : (es : List (ℕ × ℕ)) (n : ℕ)
     → lookup (λ e. is_eq (nat_cmp n e)) es ≡ lookup (nat_eq n) es
-outcome_in [] n = refl
-outcome_in (e ∷ es) n = λ i. cond (same_number n e.0 i) (Some e.1) (outcome_in es n i)
+outcome_in es n = grind (arith, same_number)
 
 module _ (sets : BTreeMap (ℕ × ℕ) ℕ) (outcomes : BTreeMap ℕ ℕ) where
   pub kept_set : (player number : ℕ) → get set_order sets (player, number)

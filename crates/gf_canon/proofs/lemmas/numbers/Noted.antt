@@ -1,16 +1,15 @@
 -- The new numbers that are noted node by node are those of the renumbering that carries one game to
 -- the other.
 use Rattle.gf_canon.proofs.Common
-use Common.{outcome_number_positive, new_outcome_number, same_set_equality, IsOnlyRenumbering, zero}
-use Common.{renumbered_node, renumbered_set, new_set_number, used_outcomes, number_of_set, BTreeMap}
-use Common.{only_outcomes, agreed_games, cons_option, Decides-eqb, flatten_map, new_numbers, Option}
-use Common.{option_map, filter_map, HasOutcome, IsEquality, unwrap_or, used_sets, IsSome}
-use Common.{map_entry, map_twice, set_order, only_sets, same_set, contains, SameGame, nat_cmp, Bool}
-use Common.{flatten, Carries, nat_eq, SetKey, set_of, IsGame, Listed, HasSet, subst, arith, is_eq}
-use Common.{Agree, cond, List, None, Some, refl, Game, Node, ◌≡◌, suc, ◌∷◌, map, sym, ◌∙◌, inl, inr}
-use Common.{◌↔◌, get, Has, has, ◌⊎◌, [], ap, ℕ, IsRenumbering, NewNumbers, Renumbering, numbers_in}
-use Rattle.gf_canon.specs.inner.Noted.{noted}
-use Rattle.gf_canon.proofs.lemmas.numbers.Kept.{kept_outcome, kept_set, same_pair}
+use Common.{outcome_number_positive, new_outcome_number, IsOnlyRenumbering, same_set_equality, Bool}
+use Common.{renumbered_node, new_set_number, IsRenumbering, number_of_set, only_outcomes, map_entry}
+use Common.{used_outcomes, agreed_games, Renumbering, cons_option, flatten_map, new_numbers, HasSet}
+use Common.{HasOutcome, IsEquality, NewNumbers, filter_map, numbers_in, option_map, map_twice, Game}
+use Common.{only_sets, set_order, unwrap_or, used_sets, BTreeMap, SameGame, contains, same_set, Has}
+use Common.{Carries, flatten, nat_cmp, IsGame, IsSome, Listed, Option, SetKey, nat_eq, set_of, List}
+use Common.{Agree, arith, is_eq, noted, rules, Node, None, Some, cond, refl, zero, get, has}
+use Common.{inl, inr, map, suc, ◌↔◌, ◌∷◌, ◌≡◌, ◌⊎◌, [], ap, ℕ}
+use Rattle.gf_canon.proofs.lemmas.numbers.Kept.{kept_outcome, same_pair, kept_set}
 
 -- ---- one set
 
@@ -18,9 +17,7 @@ pub set_noted : (had now : SetKey → Option ℕ) (k m : ℕ × ℕ) (old new : 
     → Some (set_of k.0 k.1) ≡ old → Some (set_of m.0 m.1) ≡ new → (key : SetKey)
     → now key ≡ cond (is_eq (set_order k (key.player, key.number))) (Some m.1) (had key)
     → now key ≡ noted same_set (λ s. s.number) old new had key
-set_noted had now k m old new is_old is_new key e =
-    e ∙ ap (λ b. cond b (Some m.1) (had key)) (same_pair k (key.player, key.number))
-    ∙ (λ i. noted same_set (λ s. s.number) (is_old i) (is_new i) had key)
+set_noted had now k m old new is_old is_new key e = grind (arith, same_pair)
 
 -- ---- keys one after another
 
@@ -31,23 +28,12 @@ pub record AreNoted {K : Type 0} (f : K → ℕ) (had : K → Option ℕ) (all l
   pub complete : (k : K) → Has all k → IsSome (had k) ⊎ Has left k
   pub part : (k : K) → Has left k → Has all k
 
-pub none_noted : {K : Type 0} (f : K → ℕ) (had : K → Option ℕ) (all : List K)
-    → ((k : K) → had k ≡ None) → AreNoted f had all all
-none_noted f had all none = grind arith
-
 module _ {K : Type 0} (same : K → K → Bool) (tells : IsEquality same) (f number : K → ℕ)
     (had now : K → Option ℕ) (all : List K) where
   pub one_noted : (old new : Option K) (left : List K) → AreNoted f had all (cons_option old left)
       → option_map number new ≡ option_map f old
       → ((k : K) → now k ≡ noted same number old new had k) → AreNoted f now all left
-  one_noted None new left h image is = grind arith
-  one_noted (Some old) None left h image is = absurd cc
-  one_noted (Some old) (Some new) left h image is =
-      let value : number new ≡ f old = cc in record {
-        sound = λ k n e. grind (arith, tells, h.sound k n, h.part old);
-        complete = λ k i. grind (arith, tells, h.complete k i);
-        part = λ k i. h.part k (inr i);
-      }
+  one_noted old new left h image is = grind arith
 
 -- at the end
 module _ {K : Type 0} (f : K → ℕ) (had : K → Option ℕ) (all : List K)
@@ -73,12 +59,6 @@ filter_of_nodes : {K : Type 0} (f : Node → Option K) (es : List (Listed Node))
 filter_of_nodes f [] = refl
 filter_of_nodes f (e ∷ es) = ap (cons_option (f e.node)) (filter_of_nodes f es)
 
-nodes_of_image : (r : Renumbering) (es : List (Listed Node))
-    → map (λ e. e.node) (map (map_entry (renumbered_node r)) es)
-    ≡ map (renumbered_node r) (map (λ e. e.node) es)
-nodes_of_image r es = map_twice (λ (e : Listed Node). e.node) (map_entry (renumbered_node r)) es
-    ∙ sym (map_twice (renumbered_node r) (λ (e : Listed Node). e.node) es)
-
 image_number : {K : Type 0} (f number : K → ℕ) (image : K → K) → ((k : K) → number (image k) ≡ f k)
     → (old new : Option K) → new ≡ option_map image old → option_map number new ≡ option_map f old
 image_number f number image is None new e = cc
@@ -93,12 +73,11 @@ module _ (r : Renumbering) (g : Game) {sets : SetKey → Option ℕ}
     images = cc (
       ap (λ (k : Game). k.tree) c.image,
       flatten_map (renumbered_node r) g.tree,
-      nodes_of_image r (flatten g.tree),
+      map_twice (λ (e : Listed Node). e.node) (map_entry (renumbered_node r)) (flatten g.tree),
+      map_twice (renumbered_node r) (λ (e : Listed Node). e.node) (flatten g.tree),
     );
-    sets_noted = rw (of_g, ← filter_of_nodes (λ n. n.set) (flatten g.tree))
-        (none_noted (λ k. r.set k.player k.number) sets (used_sets g.tree) no_set);
-    outcomes_noted = rw (of_g, ← filter_of_nodes (λ n. n.outcome) (flatten g.tree))
-        (none_noted r.outcome outcomes (used_outcomes g.tree) no_outcome);
+    sets_noted = rw (of_g, ← filter_of_nodes (λ n. n.set) (flatten g.tree)) (grind arith);
+    outcomes_noted = rw (of_g, ← filter_of_nodes (λ n. n.outcome) (flatten g.tree)) (grind arith);
   }
 
   pub walk_goes : {sets' : SetKey → Option ℕ} {outcomes' : ℕ → Option ℕ}
@@ -108,23 +87,7 @@ module _ (r : Renumbering) (g : Game) {sets : SetKey → Option ℕ}
       → ((k : ℕ) → outcomes' k ≡ noted nat_eq (λ i. i) n.outcome m.outcome outcomes k)
       → AreWalked r g sets' outcomes' left' others'
   walk_goes {sets'} {outcomes'} {left'} {others'} {n} {m} walked at_n at_m of_sets of_outcomes =
-      let h = rw (at_n, at_m) at walked in
-      let image : m ≡ renumbered_node r n = cc in
-      record {
-        images = cc;
-        sets_noted = one_noted same_set same_set_equality (λ k. r.set k.player k.number)
-            (λ s. s.number) sets sets' (used_sets g.tree) n.set m.set
-            (filter_map (λ n. n.set) left') h.sets_noted
-            (image_number (λ k. r.set k.player k.number) (λ s. s.number) (renumbered_set r)
-            (λ k. refl) n.set m.set (ap (λ (x : Node). x.set) image))
-            of_sets;
-        outcomes_noted = one_noted nat_eq Decides-eqb r.outcome (λ i. i) outcomes outcomes'
-            (used_outcomes g.tree) n.outcome m.outcome (filter_map (λ n. n.outcome) left')
-            h.outcomes_noted
-            (image_number r.outcome (λ i. i) r.outcome (λ k. refl) n.outcome m.outcome
-            (ap (λ (x : Node). x.outcome) image))
-            of_outcomes;
-      }
+      grind (arith, one_noted, same_set_equality, image_number)
 
   -- no node is left over
   pub walk_is_even : {left' : List Node} {n : Node} → AreWalked r g sets outcomes left others
@@ -142,37 +105,27 @@ module _ (by_set : BTreeMap (ℕ × ℕ) ℕ) (by_outcome : BTreeMap ℕ ℕ) (g
 
   new_set : (player number : ℕ) → HasSet g player number
       → new_set_number found player number ≡ Some (r.set player number)
-  new_set player number i = sym (kept_set by_set by_outcome player number)
-      ∙ number_is (λ k. r.set k.player k.number) (number_of_set by_set) (used_sets g.tree) sets
-      (set_of player number) (has (used_sets g.tree) (set_of player number) i)
+  new_set player number i =
+      let own = has (used_sets g.tree) (set_of player number) i in
+      cc (kept_set by_set by_outcome player number, number_is _ _ _ sets (set_of player number) own)
 
   new_outcome : (number : ℕ) → HasOutcome g number
       → new_outcome_number found number ≡ Some (r.outcome number)
-  new_outcome zero i = absurd (omega (
-    arith,
-    outcome_number_positive g game 0 (has (used_outcomes g.tree) 0 i),
-  ))
-  new_outcome (suc n) i = sym (kept_outcome by_set by_outcome n)
-      ∙ number_is r.outcome (get nat_cmp by_outcome) (used_outcomes g.tree) outcomes (suc n)
-      (has (used_outcomes g.tree) (suc n) i)
+  new_outcome zero i =
+      absurd (omega (arith, outcome_number_positive g game 0 (has (used_outcomes g.tree) 0 i)))
+  new_outcome (suc n) i =
+      let own = has (used_outcomes g.tree) (suc n) i in
+      cc (kept_outcome by_set by_outcome n, number_is _ _ _ outcomes (suc n) own)
 
-  has_new_set : (player number : ℕ)
+  has_set : (player number : ℕ)
       → IsSome (new_set_number found player number) ↔ HasSet g player number
-  has_new_set player number = (
-    λ some. contains (used_sets g.tree) (set_of player number)
-        (one_of_all (λ k. r.set k.player k.number) (number_of_set by_set) (used_sets g.tree)
-        sets (set_of player number)
-        (subst IsSome (sym (kept_set by_set by_outcome player number)) some)),
-    λ i. subst IsSome (sym (new_set player number i)) refl,
-  )
+  has_set player number = search (rules, contains, one_of_all, kept_set, new_set)
 
-  has_new_outcome : (number : ℕ) → IsSome (new_outcome_number found number)
+  has_outcome : (number : ℕ) → IsSome (new_outcome_number found number)
       ↔ ((number ≡ 0) ⊎ HasOutcome g number)
-  has_new_outcome zero = (λ some. inl refl, λ h. refl)
-  has_new_outcome (suc n) = (
-    λ some. inr (contains (used_outcomes g.tree) (suc n) (one_of_all r.outcome
-        (get nat_cmp by_outcome) (used_outcomes g.tree) outcomes (suc n)
-        (subst IsSome (sym (kept_outcome by_set by_outcome n)) some))),
+  has_outcome zero = (λ some. inl refl, λ h. refl)
+  has_outcome (suc n) = (
+    λ some. inr (search (rules, contains, one_of_all, kept_outcome)),
     λ h. grind (arith, new_outcome (suc n)),
   )
 
@@ -185,33 +138,17 @@ module _ (by_set : BTreeMap (ℕ × ℕ) ℕ) (by_outcome : BTreeMap ℕ ℕ) (g
   outcome_agrees number i = ap (λ o. unwrap_or o 0) (new_outcome number i)
 
   agree : Agree (new_numbers found) r g.tree
-  agree = record {
-    sets = λ key i j. record {
-      player = key.player;
-      number = set_agrees key.player key.number (contains (used_sets g.tree) key i) j;
-    };
-    outcomes = λ number i. outcome_agrees number (contains (used_outcomes g.tree) number i);
-  }
+  agree = grind (arith, set_agrees, contains, outcome_agrees)
 
   found_is_renumbering : IsRenumbering g (new_numbers found)
   found_is_renumbering = grind (arith, set_agrees, outcome_agrees)
 
-  found_carries : Carries (new_numbers found) g h
-  found_carries = record {
-    renumbering = found_is_renumbering;
-    image = agreed_games (new_numbers found) r g game agree ∙ c.image;
-  }
+  carried : Carries (new_numbers found) g h
+  carried = grind (arith, found_is_renumbering, agreed_games, agree)
 
   only_renumbering : IsOnlyRenumbering found g h
-  only_renumbering = record {
-    sets = has_new_set;
-    outcomes = has_new_outcome;
-    carries = found_carries;
-    only_sets = λ s d player number i. new_set player number i
-        ∙ ap Some (only_sets r s g h c d player number i);
-    only_outcomes = λ s d number i. new_outcome number i
-        ∙ ap Some (only_outcomes r s g h c d number i);
-  }
+  only_renumbering =
+      search (rules, has_set, has_outcome, carried, only_sets, new_set, only_outcomes, new_outcome)
 
 pub walk_ends : (by_set : BTreeMap (ℕ × ℕ) ℕ) (by_outcome : BTreeMap ℕ ℕ) (g h : Game)
     {left others : List Node} → IsGame g → SameGame g h

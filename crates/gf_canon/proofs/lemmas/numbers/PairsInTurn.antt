@@ -1,10 +1,9 @@
 -- Pairs that are told one after another: one for each item of a list, or a list for each player.
-use Rattle.gf_canon.proofs.Common.{◌≡◌, ℕ, suc, ◌+◌, ◌^◌, ◌≤◌, List, [], ◌∷◌, ◌++◌, length, map}
-use Rattle.gf_canon.proofs.Common.{refl, sym, ap, ◌∙◌, append_assoc, arith, flat_map-append}
-use Rattle.gf_canon.proofs.Common.{append-nil, flat_map, numbers_from, positions, at_position}
-use Rattle.gf_canon.proofs.Common.{SetKey, player_keys, Game, Renumbering, IsSpellable}
-use Rattle.gf_canon.proofs.Common.{outcome_pairs, renumbering_pairs, set_pairs, NumberPair, take}
-use Rattle.gf_canon.proofs.Common.{get_or, Some, option_map, ◌<◌, take_all, length-map, get_or-map}
+use Rattle.gf_canon.proofs.Common
+use Common.{renumbering_pairs, flat_map-append, outcome_pairs, append_assoc, numbers_from, flat_map}
+use Common.{IsSpellable, Renumbering, at_position, player_keys, NumberPair, append-nil, get_or-map}
+use Common.{length-map, positions, set_pairs, take_all, SetKey, get_or, length, arith, Game, List}
+use Common.{Some, refl, take, ◌++◌, map, ◌+◌, ◌<◌, ◌^◌, ◌∷◌, ◌≡◌, ◌≤◌, [], ℕ}
 use Rattle.std.proofs.lemmas.List.{take_more}
 use Rattle.std.proofs.lemmas.Option.{slice_get-get_or, slice_get-map}
 use Rattle.gf_nfg.proofs.Offered.{numbers_joined}
@@ -17,12 +16,7 @@ module _ (f : ℕ → ℕ) (xs ys : List ℕ) (carried : ys ≡ map f xs) (befor
     (within : before < length xs) where
   pub both_there : (at_position xs (before + 1) ≡ Some (get_or xs before 0))
       × (at_position ys (before + 1) ≡ Some (f (get_or xs before 0)))
-  both_there =
-      let next : before + 1 ≡ suc before = omega arith in
-      let own = slice_get-get_or xs before 0 within in (
-        ap (at_position xs) next ∙ own,
-        (λ i. at_position (carried i) (next i)) ∙ slice_get-map f xs before ∙ ap (option_map f) own,
-      )
+  both_there = grind (arith, slice_get-get_or, slice_get-map)
 
   -- pair : what is told of each
   pub pair_more : (pair : ℕ → ℕ → NumberPair) (n m : ℕ) (told : List NumberPair)
@@ -30,14 +24,10 @@ module _ (f : ℕ → ℕ) (xs ys : List ℕ) (carried : ys ≡ map f xs) (befor
       → (told ++ take before (map (λ k. pair k (f k)) xs)) ++ pair n m ∷ []
       ≡ told ++ take (before + 1) (map (λ k. pair k (f k)) xs)
   pair_more pair n m told here there =
-      let pairs = map (λ k. pair k (f k)) xs in
       let both = both_there in
-      let old : n ≡ get_or xs before 0 = cc in
-      let new : m ≡ f (get_or xs before 0) = cc in
       let last = get_or-map (λ k. pair k (f k)) xs before 0 (pair n m) within in
       let long = length-map xs (λ k. pair k (f k)) in
-      let more = take_more pairs before (pair n m) (omega arith) in
-      cc (append_assoc told (take before pairs) (pair n m ∷ []))
+      grind (arith, take_more (map (λ k. pair k (f k)) xs) before (pair n m), append_assoc)
 
 pub pairs_done : (pair : ℕ → NumberPair) (xs : List ℕ) (before : ℕ) → length xs ≤ before
     → take before (map pair xs) ≡ map pair xs
@@ -46,10 +36,6 @@ pairs_done pair xs before past = take_all before (map pair xs) (omega (arith, le
 -- ---- one list for each player, chance first
 
 module _ (f : ℕ → List NumberPair) where
-  pub chance_done : (pairs more : List NumberPair) → more ≡ pairs ++ f 0
-      → more ≡ pairs ++ flat_map f (numbers_from 0 (0 + 1))
-  chance_done pairs more e = e ∙ ap (λ (ps : List NumberPair). pairs ++ ps) (sym (append-nil (f 0)))
-
   pub player_more : (before : ℕ) (start pairs more : List NumberPair)
       → pairs ≡ start ++ flat_map f (numbers_from 0 (before + 1)) → more ≡ pairs ++ f (before + 1)
       → more ≡ start ++ flat_map f (numbers_from 0 (before + 1 + 1))

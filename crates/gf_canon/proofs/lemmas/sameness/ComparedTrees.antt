@@ -21,10 +21,7 @@ none_left f (x ∷ xs) e = absurd cc
 -- the game of a tree that was read
 pub tree_is_held : (bytes : List ℕ) (m : Listed) (g : Game) → m ≡ Tree g
     → SpellsWithin bytes (file_of_listed m) → IsGame g × IsSpellable g
-tree_is_held bytes m g is h = spelled_is_spellable bytes g (by m is h)
-  where
-    by : (n : Listed) → n ≡ Tree g → SpellsWithin bytes (file_of_listed n) → SpellsGame bytes g
-    by n e k = (rw e at k).spelled
+tree_is_held bytes m g is h = spelled_is_spellable bytes g (rw is at h).spelled
 
 module _ (names : Names) (g h : Game) (bytes : List ℕ) (game : IsGame g) (spellable : IsSpellable g)
     (spelled : SpellsGame bytes h) where
@@ -49,13 +46,11 @@ module _ (names : Names) (g h : Game) (bytes : List ℕ) (game : IsGame g) (spel
 -- a game is no table, and a table no game
 pub no_table : (names : Names) (g : Game) (t : Table)
     → IsTrue false ↔ SameBy names (extensive g) (strategic t)
-no_table Kept g t = grind arith
-no_table Aside g t = grind arith
+no_table names g t = grind arith
 
 pub no_game : (names : Names) (t : Table) (g : Game)
     → IsTrue false ↔ SameBy names (strategic t) (extensive g)
-no_game Kept t g = grind arith
-no_game Aside t g = grind arith
+no_game names t g = grind arith
 
 -- a table that was told, compared with another
 pub same_as_table : {E : Type 0} (names : Names) (t : Table) (bytes : List ℕ)

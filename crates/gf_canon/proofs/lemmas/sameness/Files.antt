@@ -1,14 +1,11 @@
 -- Sameness of files is an equivalence, with their names or without.
 use Rattle.gf_canon.proofs.Common.{arith, sym, ◌∙◌, Table, same_back, same_itself, same_on}
 use Rattle.gf_canon.proofs.Common.{GameFile, IsGameFile, SameFile, extensive, strategic, file_by}
-use Rattle.gf_canon.proofs.Common.{SameBy, Names, Kept, Aside}
+use Rattle.gf_canon.proofs.Common.{SameBy, Names}
 use Rattle.gf_nfg.specs.SameTable.{SameTable}
 use Rattle.gf_canon.proofs.lemmas.sameness.Unnamed.{unnamed_is_game}
 
 -- ---- files
-
-itself : (t : Table) → SameTable t t
-itself t = grind arith
 
 back : (t u : Table) → SameTable t u → SameTable u t
 back t u same = record {
@@ -37,8 +34,7 @@ on t u v first second = record {
 }
 
 file_itself : (x : GameFile) → IsGameFile x → SameFile x x
-file_itself (extensive g) game = same_itself g game
-file_itself (strategic t) table = itself t
+file_itself x file = grind (arith, same_itself)
 
 file_back : (x y : GameFile) → IsGameFile x → SameFile x y → SameFile y x
 file_back (extensive g) (extensive h) game same = same_back g h game same
@@ -53,9 +49,7 @@ file_on _ _ _ first second = grind arith
 -- ---- with names, or without
 
 file_still : (names : Names) (x : GameFile) → IsGameFile x → IsGameFile (file_by names x)
-file_still Kept x file = file
-file_still Aside (extensive g) game = unnamed_is_game g game
-file_still Aside (strategic t) table = assumption table
+file_still names x file = grind (arith, unnamed_is_game)
 
 pub reflexive : (names : Names) (x : GameFile) → IsGameFile x → SameBy names x x
 reflexive names x file = file_itself (file_by names x) (file_still names x file)

@@ -1,18 +1,16 @@
 -- Without its names a game is still a game, and games that are the same are also the same aside
 -- from names.
 use Rattle.gf_canon.proofs.Common
-use Common.{renumbered_node, unnamed_outcome, InformationSet, AllByRecursion, description_at, arith}
-use Common.{map_tree_twice, canonical_text, SameAsideNames, used_outcomes, same_set}
-use Common.{IsRenumbering, unnamed_table, unnamed_node, unnamed_game, MatchOption, cons_option, ◌≡◌}
-use Common.{HasChildren, IsSpellable, Renumbering, flatten_map, unnamed_set, option_map, filter_map}
-use Common.{outcome_at, renumbered, SpellsFile, all_images, all_weaker, Described, used_sets, subst}
-use Common.{map_entry, map_twice, extensive, strategic, GameFile, SameFile, IsLabel, flatten, Table}
-use Common.{Carries, unnamed, length, Option, nat_eq, Listed, SetKey, IsGame, set_at, Bool, List, ℕ}
-use Common.{Some, refl, Node, Game, ◌∷◌, map, sym, ◌∙◌, ◌↔◌, [], ap}
+use Common.{unnamed_outcome, SameAsideNames, canonical_text, description_at, map_tree_twice, IsGame}
+use Common.{IsRenumbering, unnamed_table, used_outcomes, unnamed_game, unnamed_node, IsSpellable, ℕ}
+use Common.{MatchOption, Renumbering, cons_option, flatten_map, unnamed_set, SpellsFile, all_images}
+use Common.{all_weaker, filter_map, option_map, outcome_at, renumbered, Described, extensive, Table}
+use Common.{map_entry, map_twice, strategic, used_sets, GameFile, SameFile, same_set, Carries, Bool}
+use Common.{flatten, unnamed, Listed, Option, SetKey, length, nat_eq, set_at, arith, Game, List, []}
+use Common.{Node, Some, refl, map, ◌↔◌, ◌∷◌, ◌≡◌}
 use Rattle.gf_nfg.specs.SameTable.{SamePlay}
-use Rattle.gf_nfg.proofs.Offered.{text_reads_back as table_reads_back}
 use Rattle.gf_nfg.proofs.Offered.{spelled_is_spellable as spelled_table}
-use Rattle.gf_tree.specs.Description.{Outcome}
+use Rattle.gf_nfg.proofs.Offered.{text_reads_back as table_reads_back}
 use Rattle.gf_tree.proofs.Offered.{spelled_is_spellable as spelled_game}
 use Rattle.gf_canon.proofs.lemmas.texts.ReadsBack.{text_reads_back}
 use Rattle.gf_canon.proofs.lemmas.files.Texts.{equal_canonical_texts, file_text}
@@ -44,8 +42,7 @@ description_redescribed : {K D : Type 0} (same : K → K → Bool)
     (f : D → D) (es : List (Described K D)) (key : K)
     → description_at same (redescribed f es) key ≡ option_map f (description_at same es key)
 description_redescribed same f [] key = refl
-description_redescribed same f (e ∷ es) key =
-    grind (arith, description_redescribed same f es key)
+description_redescribed same f (e ∷ es) key = grind (arith, description_redescribed same f es key)
 
 pub unnamed_set_at : (g : Game) (key : SetKey)
     → set_at (unnamed_game g) key ≡ option_map unnamed_set (set_at g key)
@@ -64,73 +61,31 @@ children_by : (g : Game) (o : Option SetKey) (n : ℕ)
 children_by g o n h = grind (arith, unnamed_set_at)
 
 pub unnamed_is_game : (g : Game) → IsGame g → IsGame (unnamed_game g)
-unnamed_is_game g game = record {
-  one_entry_each_set = cc (
-    map_twice (λ (s : Described SetKey InformationSet). s.key)
-        (λ s. record { key = s.key; description = unnamed_set s.description }) g.sets,
-    unnamed_sets g,
-  );
-  one_entry_each_outcome = cc (
-    map_twice (λ (o : Described ℕ Outcome). o.key)
-        (λ o. record { key = o.key; description = unnamed_outcome o.description }) g.outcomes,
-    unnamed_outcomes g,
-  );
-  each_set = all_images _ _ g.sets (all_weaker _ _ (λ s h. assumption h) g.sets game.each_set);
-  each_outcome =
-      all_images _ _ g.outcomes (all_weaker _ _ (λ o h. assumption h) g.outcomes game.each_outcome);
-  children = subst (AllByRecursion (HasChildren (unnamed_game g)))
-      (sym (flatten_map unnamed_node g.tree)) (all_images _ _ (flatten g.tree) (all_weaker _ _
-      (λ e. children_by g e.node.set e.children) (flatten g.tree) game.children));
-}
+unnamed_is_game g game =
+    let children = children_by g in
+    grind (arith, map_twice, unnamed_sets, unnamed_outcomes, all_images, all_weaker, flatten_map)
 
 pub unnamed_is_spellable : (g : Game) → IsSpellable g → IsSpellable (unnamed_game g)
-unnamed_is_spellable g can = record {
-  title = refl;
-  comment = refl;
-  players = can.players;
-  nodes = subst (AllByRecursion (λ e. IsLabel e.node.name)) (sym (flatten_map unnamed_node g.tree))
-      (all_images _ _ (flatten g.tree) (all_weaker _ _ (λ e h. refl) (flatten g.tree) can.nodes));
-  sets = all_images _ _ g.sets (all_weaker _ _ (λ s h. assumption (h, refl)) g.sets can.sets);
-  outcomes = all_images _ _ g.outcomes
-      (all_weaker _ _ (λ o h. assumption (h, refl)) g.outcomes can.outcomes);
-}
+unnamed_is_spellable g can = grind (arith, flatten_map, all_images, all_weaker)
 
 -- ---- the same, and so aside from names
 
 renumbering_still : (g : Game) (r : Renumbering) → IsRenumbering g r
     → IsRenumbering (unnamed_game g) r
-renumbering_still g r h =
-    let sets = unnamed_sets g in let outcomes = unnamed_outcomes g in grind arith
+renumbering_still g r h = grind (arith, unnamed_sets, unnamed_outcomes)
 
 -- names and numbers can be changed in either order
 pub unnamed_renumbered : (r : Renumbering) (g : Game)
     → renumbered r (unnamed_game g) ≡ unnamed_game (renumbered r g)
-unnamed_renumbered r g =
-    let tree = map_tree_twice (renumbered_node r) unnamed_node g.tree
-    ∙ sym (map_tree_twice unnamed_node (renumbered_node r) g.tree) in
-    let sets = map_twice _ _ g.sets ∙ sym (map_twice _ _ g.sets) in
-    let outcomes = map_twice _ _ g.outcomes ∙ sym (map_twice _ _ g.outcomes) in
-    λ i. record {
-      title = [];
-      comment = [];
-      players = g.players;
-      tree = tree i;
-      sets = sets i;
-      outcomes = outcomes i;
-    }
+unnamed_renumbered r g = grind (arith, map_tree_twice, map_twice)
 
 carries_aside : (r : Renumbering) (g h : Game) → Carries r g h
     → Carries r (unnamed_game g) (unnamed_game h)
-carries_aside r g h c = record {
-  renumbering = renumbering_still g r c.renumbering;
-  image = unnamed_renumbered r g ∙ ap unnamed_game c.image;
-}
+carries_aside r g h c = grind (arith, renumbering_still, unnamed_renumbered)
 
 pub same_is_so_aside : (x y : GameFile) → SameFile x y → SameAsideNames x y
 same_is_so_aside (extensive g) (extensive h) s = (s.0, carries_aside s.0 g h s.1)
-same_is_so_aside (strategic t) (strategic u) s = assumption (s.play, refl)
-same_is_so_aside (extensive g) (strategic u) s = s
-same_is_so_aside (strategic t) (extensive h) s = s
+same_is_so_aside x y s = grind (arith, carries_aside)
 
 -- ---- by their texts
 

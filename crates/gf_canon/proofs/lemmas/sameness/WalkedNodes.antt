@@ -1,8 +1,8 @@
 -- Two games are the same exactly when their headings and their nodes by first-use numbers are
 -- equal, which a walk over the nodes of both decides.
-use Rattle.gf_canon.proofs.Common.{◌≡◌, List, ◌∷◌, ◌++◌, map, sym, ap, ◌∙◌, ◌↔◌, file_nodes, Game}
+use Rattle.gf_canon.proofs.Common.{◌≡◌, List, ◌∷◌, map, ◌↔◌, file_nodes, Game}
 use Rattle.gf_canon.proofs.Common.{IsGame, IsSpellable, heading_in, canonical_game, extensive}
-use Rattle.gf_canon.proofs.Common.{game_text, SameBy, SameGame, heading_text, Names, Aside, Kept}
+use Rattle.gf_canon.proofs.Common.{game_text, SameBy, SameGame, Names, Aside, Kept, arith, rules}
 use Rattle.gf_canon.proofs.Common.{canonical_is_game, same_by_canonical, game_by}
 use Rattle.gf_canon.specs.inner.ComparedTrees.{AgreesWith}
 use Rattle.gf_canon.proofs.lemmas.files.Texts.{equal_game_texts}
@@ -20,10 +20,7 @@ pub record IsHeld (g : Game) : Type 0 where
 
 held_by : (names : Names) (g : Game) → IsHeld g → IsHeld (game_by names g)
 held_by Kept g held = held
-held_by Aside g held = record {
-  game = unnamed_is_game g held.game;
-  spellable = unnamed_is_spellable g held.spellable;
-}
+held_by Aside g held = search (rules, unnamed_is_game, unnamed_is_spellable)
 
 module _ (names : Names) (g h : Game) (left : IsHeld g) (right : IsHeld h) where
   -- what counts of headings and of nodes by first-use numbers
@@ -32,33 +29,23 @@ module _ (names : Names) (g h : Game) (left : IsHeld g) (right : IsHeld h) where
 
   same_texts : AreAlike → game_text (canonical_game (game_by names g))
       ≡ game_text (canonical_game (game_by names h))
-  same_texts alike =
-      let heading = heading_is names g ∙ alike.heading ∙ sym (heading_is names h) in
-      let nodes = nodes_by names g ∙ alike.nodes ∙ sym (nodes_by names h) in
-      game_text_is (canonical_game (game_by names g))
-      ∙ (λ i. heading_text (heading i) ++ node_lines (nodes i))
-      ∙ sym (game_text_is (canonical_game (game_by names h)))
+  same_texts alike = grind (arith, heading_is, nodes_by, game_text_is, node_lines)
 
   pub same_by_nodes : AreAlike ↔ SameGame (game_by names g) (game_by names h)
   same_by_nodes =
       let g' = held_by names g left in
       let h' = held_by names h right in
-      let same = same_by_canonical (game_by names g) (game_by names h) g'.game h'.game in (
-        λ alike. same.1 ((equal_game_texts (canonical_game (game_by names g))
-            (canonical_game (game_by names h)) (canonical_is_game _ g'.game)
-            (canonical_is_spellable _ g'.game g'.spellable) (canonical_is_game _ h'.game)
-            (canonical_is_spellable _ h'.game h'.spellable)).0 (same_texts alike)),
-        λ s. record {
-          heading = sym (heading_is names g) ∙ ap heading_in (same.0 s) ∙ heading_is names h;
-          nodes = sym (nodes_by names g) ∙ ap file_nodes (same.0 s) ∙ nodes_by names h;
-        },
-      )
+      let same = same_by_canonical (game_by names g) (game_by names h) g'.game h'.game in
+      let texts = equal_game_texts (canonical_game (game_by names g))
+      (canonical_game (game_by names h)) (canonical_is_game _ g'.game)
+      (canonical_is_spellable _ g'.game g'.spellable) (canonical_is_game _ h'.game)
+      (canonical_is_spellable _ h'.game h'.spellable) in
+      grind (arith, same_texts, heading_is, nodes_by)
 
 pub same_by_walk : (names : Names) (g h : Game) → IsHeld g → IsHeld h
     → AgreesWith names g (heading_in h) (file_nodes (canonical_game h))
     ↔ SameBy names (extensive g) (extensive h)
-same_by_walk Kept = same_by_nodes Kept
-same_by_walk Aside = same_by_nodes Aside
+same_by_walk names g h first second = grind (arith, same_by_nodes names g h first second)
 
 -- ---- one node after another
 
@@ -67,7 +54,4 @@ module _ {P : Type 0} {A B : Type 0} (f : A → B) {us vs : List A}
     (left : P ↔ (map f us ≡ map f vs)) where
   pub walks_on : {us' vs' : List A} {u v : A} → us ≡ u ∷ us' → vs ≡ v ∷ vs' → f u ≡ f v
       → P ↔ (map f us' ≡ map f vs')
-  walks_on {us'} {vs'} {u} {v} at_u at_v e = (
-    λ p. let same : f u ∷ map f us' ≡ f v ∷ map f vs' = cc (left.0 p) in cc,
-    λ rest. left.1 (ap (map f) at_u ∙ (λ i. e i ∷ rest i) ∙ sym (ap (map f) at_v)),
-  )
+  walks_on {us'} {vs'} {u} {v} at_u at_v e = grind arith

@@ -1,6 +1,6 @@
 -- The answer of a comparison speaks of whatever the two files mean, and of their canonical texts.
 use Rattle.gf_canon.proofs.Common.{◌≡◌, ℕ, Bool, List, Result, Ok, Err, IfErr, IfOk, MatchResult}
-use Rattle.gf_canon.proofs.Common.{subst, ◌↔◌, IsTrue, GameFile, SameFile, SpellsFile}
+use Rattle.gf_canon.proofs.Common.{◌↔◌, IsTrue, GameFile, SameFile, arith}
 use Rattle.gf_canon.proofs.Common.{IsCanonicalText, MeansFile, SpellsWithin, SameBy, Names, Kept}
 use Rattle.gf_canon.specs.Sameness.{AreRefusedWith, LacksMemory}
 use Rattle.gf_canon.specs.declared.sameness.SameFault.{SameFault}
@@ -12,17 +12,12 @@ pub same_as_read : (names : Names) (answer : Bool) (a b : List ℕ) (first secon
     → SpellsWithin a first → SpellsWithin b second → IsTrue answer ↔ SameBy names first second
     → (x y : GameFile) → SpellsWithin a x → SpellsWithin b y → IsTrue answer ↔ SameBy names x y
 same_as_read names answer a b first second of_a of_b same x y of_x of_y =
-    rw (
-      spells_one_file a x first of_x.spelled of_a.spelled,
-      spells_one_file b y second of_y.spelled of_b.spelled,
-    ) same
+    grind (arith, spells_one_file)
 
 -- files that both mean something are refused only for lack of memory
 memory_alone : (a b : List ℕ) (fault : SameFault) (x y : GameFile) → SpellsWithin a x
     → SpellsWithin b y → AreRefusedWith a b fault → LacksMemory fault
-memory_alone a b (SameFault.First fault) x y of_x of_y refused = refused.unless_memory x of_x
-memory_alone a b (SameFault.Second fault) x y of_x of_y refused = refused.1.unless_memory y of_y
-memory_alone a b SameFault.Memory x y of_x of_y refused = tt
+memory_alone a b fault x y of_x of_y refused = grind arith
 
 -- the first was read
 pub same_as_first : (names : Names) (result : Result Bool SameFault) (a b : List ℕ)
@@ -40,16 +35,12 @@ same_as_first names (Err fault) a b first of_first same refused x y of_x of_y =
 -- files of equal bytes mean the same
 pub same_as_itself : (names : Names) (a b : List ℕ) → a ≡ b → (x y : GameFile) → SpellsWithin a x
     → SpellsWithin b y → SameBy names x y
-same_as_itself names a b equal x y of_x of_y = subst (SameBy names x)
-    (spells_one_file b x y (subst (λ (bytes : List ℕ). SpellsFile bytes x) equal of_x.spelled)
-    of_y.spelled)
-    (reflexive names x (is_game_file a x of_x.spelled))
+same_as_itself names a b equal x y of_x of_y =
+    grind (arith, spells_one_file, reflexive, is_game_file)
 
 pub same_as_texts : (result : Result Bool SameFault) (a b s t : List ℕ)
     → (p : IsCanonicalText a s) → (q : IsCanonicalText b t)
     → MatchResult result (λ answer. IsTrue answer ↔ SameFile p.file q.file) LacksMemory
     → IfOk result (λ answer. IsTrue answer ↔ (s ≡ t))
-same_as_texts (Ok answer) a b s t p q same =
-    let texts = equal_texts_by Kept a b s t p q p.file q.file p.spelled q.spelled in
-    (λ yes. texts.1 (same.0 yes), λ e. same.1 (texts.0 e))
-same_as_texts (Err fault) a b s t p q same = tt
+same_as_texts result a b s t p q same =
+    let texts = equal_texts_by Kept a b s t p q p.file q.file p.spelled q.spelled in grind arith

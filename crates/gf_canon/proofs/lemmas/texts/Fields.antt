@@ -1,11 +1,11 @@
 -- Lists in braces, and lines field by field.
 use Rattle.gf_canon.proofs.Common
-use Common.{flat_map-append, InformationSet, action_fields, list_text}
-use Common.{append_assoc, mover_fields, heading_text, others_text, step_fields, length}
-use Common.{append-nil, lines_text, file_nodes, first_line, game_text, node_text, node_line, Option}
-use Common.{flat_map, label_of, FileNode, decimal, quoted, []}
-use Common.{spaced, SetKey, arith, codes, zero, List, ◌++◌, None, Some, refl, ap}
-use Common.{heading_in, Heading, Game, ◌≡◌, suc, ◌<◌, ◌∷◌, map, sym, ◌∙◌, ◌≤◌, set, Use, ◌^◌, ℕ}
+use Common.{common_steps}
+use Common.{flat_map-append, InformationSet, action_fields, append_assoc, heading_text, others_text}
+use Common.{mover_fields, step_fields, append-nil, file_nodes, first_line, heading_in, lines_text}
+use Common.{game_text, list_text, node_line, node_text, FileNode, drop-set, flat_map, label_of, Use}
+use Common.{Heading, decimal, Option, SetKey, length, quoted, spaced, arith, codes, Game, List, map}
+use Common.{None, Some, refl, zero, ◌++◌, set, suc, sym, ◌<◌, ◌^◌, ◌∙◌, ◌∷◌, ◌≡◌, ◌≤◌, [], ap, ℕ}
 use Rattle.gf_fraction.specs.NumberText.{number_text}
 use Rattle.std.proofs.lemmas.Fmt.{length-decimal-le}
 use Rattle.gf_fraction.specs.Ratio.{Ratio}
@@ -106,3 +106,7 @@ text_done g h left old heading out is e none lines =
 -- a number of 32 bits has ten digits at most
 pub ten_digits : (n : ℕ) → n < 2 ^ 32 → length (decimal n) ≤ 10
 ten_digits n h = length-decimal-le 10 n (omega arith) (omega arith) (omega arith)
+
+pub ruleset digits_before = (ten_digits, drop-set)
+
+pub ruleset described_line = (common_steps, line_written, step_joined)

@@ -6,8 +6,8 @@ use Common.{all_of_each, flatten_map, entry_used, option_map, filter_map, first_
 use Common.{outcome_at, keys_alone, IsEquality, node_after, file_nodes, append-nil, Described, Bool}
 use Common.{Describes, used_sets, has_place, map_entry, map_twice, use_after, list_any, same_set}
 use Common.{FileNode, FileTree, set_uses, contains, in_keys, flatten, has_map, Option, nat_eq, List}
-use Common.{Listed, IsGame, set_at, arith, false, subst, Fills, found, ◌++◌, None, Some, refl, Node}
-use Common.{Game, ◌≡◌, suc, ◌+◌, ◌∷◌, map, sym, ◌∙◌, inl, inr, Use, Has, has, [], ap}
+use Common.{Listed, IsGame, set_at, arith, false, Fills, found, ◌++◌, Some, refl, Node}
+use Common.{Game, ◌≡◌, suc, ◌+◌, ◌∷◌, map, sym, ◌∙◌, Use, Has, has, [], ap}
 use Rattle.std.proofs.lemmas.List.Folds.{list_any-append}
 use Rattle.std.proofs.lemmas.List.Elements.{filter_map-append}
 use Rattle.gf_tree.specs.Tree.{map_tree}
@@ -33,8 +33,7 @@ module _ {K D : Type 0} (same : K → K → Bool) (at : K → Option D) where
   use_says : (before keys : List K) (key : K) (d : D)
       → Has (uses_after before keys) (record { key = key; description = Some d }) → at key ≡ Some d
   use_says before [] key d h = absurd h
-  use_says before (k ∷ keys) key d (inl e) = grind arith
-  use_says before (k ∷ keys) key d (inr h) = use_says (before ++ k ∷ []) keys key d h
+  use_says before (k ∷ keys) key d h = grind (arith, use_says (before ++ k ∷ []) keys key d)
 
   -- a use is that of its key after the keys before it
   use_at_place : (before keys : List K) (front after : List (Use K D)) (u : Use K D)
@@ -75,30 +74,23 @@ module _ {K D : Type 0} (same : K → K → Bool) (equality : IsEquality same) (
 
   key_described : (keys : List K) (key : K) (d : D) → Has keys key → at key ≡ Some d
       → Describes (uses_after same at [] keys) key d
-  key_described keys key d h e =
-      contains (uses_after same at [] keys) _ (new_described [] keys key d h e refl)
+  key_described keys key d h e = grind (arith, contains, new_described)
 
   first_is_described : (keys : List K) → ((k : K) → Has keys k → (d : D) × (at k ≡ Some d))
       → (front after : List (Use K D)) (u : Use K D)
       → uses_after same at [] keys ≡ front ++ u ∷ after → IsFirstUse front u → IsDescribed u
   first_is_described keys known front after u e first =
-      let used = subst (λ ks. Has ks u.key) (uses_keys same at [] keys)
-      (has_map (λ (v : Use K D). v.key) (uses_after same at [] keys) u
-      (subst (λ us. Has us u) (sym e) (has_place front after u))) in
-      let d = known u.key used in (
-        d.0,
-        ap (λ (v : Use K D). v.description) (use_at_place same at [] keys front after u e)
-            ∙ rw (first_is_new same equality front u first) d.1,
-      )
+      let used = has_map (λ (v : Use K D). v.key) (uses_after same at [] keys) u in
+      let place = use_at_place same at [] keys front after u e in
+      let new = first_is_new same equality front u first in
+      grind (arith, uses_keys same at [] keys, has_place)
 
   uses_consistent : (keys : List K) → ((k : K) → Has keys k → (d : D) × (at k ≡ Some d))
       → AreConsistent (uses_after same at [] keys)
   uses_consistent keys known = record {
     first_described = first_is_described keys known;
     described_alike = λ key c d h k.
-        let p = use_says same at [] keys key c (has (uses_after same at [] keys) _ h) in
-        let q = use_says same at [] keys key d (has (uses_after same at [] keys) _ k) in
-        cc;
+        grind (arith, use_says same at [] keys key c, use_says same at [] keys key d, has);
   }
 
   first_uses_described : (keys : List K) → ((k : K) → Has keys k → (d : D) × (at k ≡ Some d))
@@ -120,23 +112,13 @@ module _ {K D : Type 0} (same : K → K → Bool) (equality : IsEquality same) (
 
   told : (e : Described K D) → Has es e
       → Describes (uses_after same (description_at same es) [] keys) e.key e.description
-  told e h =
-      key_described same equality (description_at same es) keys e.key e.description
-      (entry_used same keys es e entries h)
-      (entry_at same equality es e (rw entries (first_uses_distinct same equality keys)) h)
+  told e h = grind (arith, key_described, entry_used, entry_at, first_uses_distinct)
 
   map_learned : (us : List (Use K D)) → us ≡ uses_after same (description_at same es) [] keys
       → Learns same [] us es × DescribeFirstUses us
-  map_learned us is = subst (λ vs. Learns same [] vs es × DescribeFirstUses vs) (sym is) (
-    (learned_once same equality (uses_after same (description_at same es) [] keys) es).1 (
-      uses_consistent same equality (description_at same es) keys known,
-      entries ∙ ap (first_uses same) (sym (uses_keys same (description_at same es) [] keys)),
-      all_of_each (λ (e : Described K D).
-          Describes (uses_after same (description_at same es) [] keys) e.key e.description) es
-          told,
-    ),
-    first_uses_described same equality (description_at same es) keys known,
-  )
+  map_learned us is =
+      let first = first_uses_described same equality (description_at same es) keys known in
+      grind (arith, learned_once, uses_consistent, known, uses_keys, all_of_each, told)
 
 -- ---- entries
 
@@ -155,32 +137,14 @@ nodes_are : (g : Game) (before es : List (Listed Node))
     ≡ map (λ e. e.node) (entries_after g before es)
 nodes_are g before [] = refl
 nodes_are g before (e ∷ es) =
-    let others =
-    map_twice (λ (p : List (Listed Node) × Listed Node). node_after g (before ++ p.0) p.1.node)
-    (λ (p : List (Listed Node) × Listed Node). (e ∷ p.0, p.1)) (with_those_before es)
-    ∙ (λ j. map (λ p. node_after g (sym (append_assoc before (e ∷ []) p.0) j) p.1.node)
-    (with_those_before es))
-    ∙ nodes_are g (before ++ e ∷ []) es in
-    λ i. node_after g (append-nil before i) e.node ∷ others i
+    grind (arith, map_twice, append-nil, append_assoc, nodes_are g (before ++ e ∷ []) es)
 
 pub file_nodes_are : (g : Game) → file_nodes g ≡ map (λ e. e.node) (file_entries g)
 file_nodes_are g = nodes_are g [] (flatten g.tree)
 
-option_keys : {K D : Type 0} (use_of : K → Use K D) → ((k : K) → (use_of k).key ≡ k)
-    → (o : Option K) → option_map (λ u. u.key) (option_map use_of o) ≡ o
-option_keys use_of h None = refl
-option_keys use_of h (Some k) = ap Some (h k)
-
 node_keys : (g : Game) (before : List (Listed Node)) (n : Node)
     → keys_alone (node_after g before n) ≡ n
-node_keys g before n =
-    let set = option_keys
-    (use_after same_set (set_at g) (filter_map (λ (e : Listed Node). e.node.set) before))
-    (λ k. refl) n.set in
-    let outcome = option_keys
-    (use_after nat_eq (outcome_at g) (filter_map (λ (e : Listed Node). e.node.outcome) before))
-    (λ k. refl) n.outcome in
-    λ i. record { name = n.name; set = set i; outcome = outcome i }
+node_keys g before n = grind arith
 
 entries_keys : (g : Game) (before es : List (Listed Node))
     → map (map_entry keys_alone) (entries_after g before es) ≡ es
@@ -203,8 +167,7 @@ used_after : {K D : Type 0} (same : K → K → Bool)
     → cons_option (option_map (use_after same at before) o)
     (uses_after same at (before ++ cons_option o []) rest)
     ≡ uses_after same at before (cons_option o rest)
-used_after same at None before rest = ap (λ ks. uses_after same at ks rest) (append-nil before)
-used_after same at (Some k) before rest = refl
+used_after same at o before rest = grind (arith, append-nil)
 
 module _ {K D : Type 0} (same : K → K → Bool) (at : K → Option D) (g : Game)
     (key : Node → Option K) (use_of : FileNode → Option (Use K D))
@@ -239,14 +202,10 @@ file_of_game g game =
     game.one_entry_each_outcome (outcome_uses (flatten tree.0)) (ap outcome_uses tree.1
     ∙ uses_are nat_eq (outcome_at g) g (λ n. n.outcome) (λ n. n.outcome) (λ before n. refl) [] es)
     in
+    let kept = flatten_once (map_tree keys_alone tree.0) g.tree
+    (cc (flatten_map keys_alone tree.0, entries_keys g [] es)) in
     let means = (game_learned_once f g).0 (record {
-      kept = record {
-        title = refl;
-        comment = refl;
-        players = refl;
-        tree = flatten_once (map_tree keys_alone tree.0) g.tree
-            (cc (flatten_map keys_alone tree.0, entries_keys g [] es));
-      };
+      kept = record { title = refl; comment = refl; players = refl; tree = kept };
       sets = sets.0;
       outcomes = outcomes.0;
       each_set = game.each_set;
@@ -254,11 +213,6 @@ file_of_game g game =
       children = game.children;
     }) in (
       f,
-      record {
-        consistent = means.0;
-        game = means.1;
-        sets = sets.1;
-        outcomes = outcomes.1;
-      },
+      record { consistent = means.0; game = means.1; sets = sets.1; outcomes = outcomes.1 },
       ap (map (λ e. e.node)) tree.1 ∙ sym (file_nodes_are g),
     )

@@ -1,13 +1,12 @@
 -- A game has one file tree in which exactly the first uses are described.
 use Rattle.gf_canon.proofs.Common
-use Common.{outcomes_in_order, same_set_equality, AllByRecursion, description_at, if◌then◌else◌, []}
-use Common.{AreConsistent, used_outcomes, sets_in_order, append_assoc, outcome_uses, cons_option}
-use Common.{Decides-eqb, flatten_map, option_map, map-append, first_uses, keys_alone, IsEquality}
-use Common.{use_after, Described, Describes, used_sets, map_entry, has_place, list_any, same_set}
-use Common.{FileNode, FileTree, set_uses, contains, flatten, Option, nat_eq, Listed, arith, subst}
-use Common.{Bool, List, ◌++◌, Some, None, refl, Game, ◌≡◌, ◌∷◌, map, sym, ◌∙◌, Use, Has, ap}
-use Common.{IsConsistent, IsGameOf, IsGame, ◌↔◌}
-use Rattle.gf_tree.proofs.Offered.{is_game, told_found, flatten_once}
+use Common.{outcomes_in_order, same_set_equality, AllByRecursion, description_at, AreConsistent, []}
+use Common.{sets_in_order, used_outcomes, IsConsistent, append_assoc, outcome_uses, Decides-eqb, ap}
+use Common.{cons_option, flatten_map, IsEquality, first_uses, keys_alone, map-append, option_map}
+use Common.{Described, Describes, has_place, map_entry, use_after, used_sets, FileNode, FileTree}
+use Common.{IsGameOf, contains, same_set, set_uses, flatten, IsGame, Listed, Option, nat_eq, arith}
+use Common.{subst, Bool, Game, List, Some, refl, ◌++◌, Has, Use, map, sym, ◌↔◌, ◌∙◌, ◌∷◌, ◌≡◌}
+use Rattle.gf_tree.proofs.Offered.{flatten_once, told_found, is_game}
 use Rattle.gf_canon.specs.FirstDescribed.{DescribeFirstUses, IsFileOf}
 use Rattle.gf_canon.proofs.lemmas.texts.FileOf.{file_of_game, first_is_new, none_of_them}
 use Rattle.gf_canon.proofs.lemmas.texts.FileOf.{uses_after}
@@ -20,44 +19,26 @@ module _ {K D : Type 0} (same : K → K → Bool) (equality : IsEquality same) (
     (told : (u : Use K D) (d : D) → Has us u → u.description ≡ Some d → at u.key ≡ Some d) where
   use_is : (before after : List (Use K D)) (u : Use K D) → us ≡ before ++ u ∷ after
       → u ≡ use_after same at (map (λ v. v.key) before) u.key
-  use_is before after u split =
-      let among : Has us u = subst (λ vs. Has vs u) (sym split) (has_place before after u) in
-      let described = first before after u split in
-      let says = λ (d : D). told u d among in
-      let is : u.description
-      ≡ (if list_any (same u.key) (map (λ v. v.key) before) then None else at u.key) =
-      grind (arith, none_of_them same equality before u, first_is_new same equality before u) in
-      λ i. record { key = u.key; description = is i }
+  use_is before after u split = grind (arith, has_place, told, none_of_them, first_is_new)
 
   uses_are : (before rest : List (Use K D)) → us ≡ before ++ rest
       → rest ≡ uses_after same at (map (λ v. v.key) before) (map (λ v. v.key) rest)
   uses_are before [] split = refl
   uses_are before (u ∷ rest) split =
-      let later = uses_are (before ++ u ∷ []) rest (split ∙ sym (append_assoc before (u ∷ []) rest))
-      ∙ ap (λ ks. uses_after same at ks (map (λ (v : Use K D). v.key) rest))
-      (map-append (λ (v : Use K D). v.key) before (u ∷ [])) in
-      λ i. use_is before rest u split i ∷ later i
+      grind (arith, append_assoc, uses_after, map-append, use_is, uses_are (before ++ u ∷ []) rest)
 
 -- ---- entries
 
 same_options : {K D : Type 0} (o p : Option (Use K D)) (us vs : List (Use K D))
     → option_map (λ u. u.key) o ≡ option_map (λ u. u.key) p → cons_option o us ≡ cons_option p vs
     → (o ≡ p) × (us ≡ vs)
-same_options None None us vs keys e = (refl, e)
-same_options (Some u) (Some v) us vs keys e = (cc, cc)
-same_options _ _ us vs keys e = absurd cc
+same_options o p us vs keys e = grind arith
 
 same_entries : (es fs : List (Listed FileNode))
     → map (map_entry keys_alone) es ≡ map (map_entry keys_alone) fs → set_uses es ≡ set_uses fs
     → outcome_uses es ≡ outcome_uses fs → es ≡ fs
 same_entries [] [] keys sets outcomes = refl
-same_entries (e ∷ es) (f ∷ fs) keys sets outcomes =
-    grind (
-      arith,
-      same_options e.node.set f.node.set (set_uses es) (set_uses fs),
-      same_options e.node.outcome f.node.outcome (outcome_uses es) (outcome_uses fs),
-      same_entries es fs,
-    )
+same_entries (e ∷ es) (f ∷ fs) keys sets outcomes = grind (arith, same_options, same_entries es fs)
 same_entries _ _ keys sets outcomes = absurd cc
 
 -- ---- the file tree
@@ -108,9 +89,6 @@ one_file g f h p q =
     }
 
 pub are_games : (g : Game) → IsGame g ↔ ((f : FileTree) × IsConsistent f × IsGameOf f g)
-are_games g = (
-  λ game. let f = file_of_game g game in (f.0, f.1.consistent, f.1.game),
-  λ f. is_game f.0 g f.1 f.2,
-)
+are_games g = grind (arith, file_of_game, is_game)
 
 pub ruleset files_of_games = (file_of_game, one_file, are_games)

@@ -1,12 +1,11 @@
 -- The line of a node that describes nothing, part by part.
 use Rattle.gf_canon.proofs.Common
-use Common.{described_fields, InformationSet, length-append, player_letter, append_assoc, node_line}
-use Common.{mover_fields, mover_letter, length-drop, number_then, player_then, set_use_of, drop-set}
-use Common.{set_fields, plain_line, option_map, tail_text, FileNode, decimal, is_some, length, zero}
-use Common.{Option, Result, SetKey, quoted, spaced, false, arith, codes, List, ◌++◌, drop, None, []}
-use Common.{Some, refl, OnOk, take, ◌≡◌, suc, ◌+◌, ◌<◌, ◌∷◌, set, Err, ◌≤◌, ◌-◌, Use, ap, Ok, ℕ}
+use Common.{InformationSet, length-append, append_assoc, mover_letter, length-drop, number_then, []}
+use Common.{option_map, plain_line, set_use_of, node_line, tail_text, FileNode, drop-set, decimal}
+use Common.{is_some, Option, Result, SetKey, length, quoted, arith, codes, false, List, None, OnOk}
+use Common.{Some, drop, refl, take, ◌++◌, Use, set, ◌+◌, ◌-◌, ◌<◌, ◌∷◌, ◌≡◌, ◌≤◌, ap, ℕ}
 use Rattle.std.specs.Fmt.{digits}
-use Rattle.std.proofs.Math.Seq.{take-append-add, take-append_seam}
+use Rattle.std.proofs.Math.Seq.{take-append_seam, take-append-add}
 use Rattle.gf_tree.specs.declared.game.file_node.SetUse.{SetUse}
 
 pub zero_text : decimal 0 ≡ codes "0"
@@ -51,27 +50,20 @@ pub ruleset tails = (number_tail, outcome_tail, tail_chance, tail_none, tail_pla
 -- with as much as stands before it, the tail is as long as the line may be
 pub tail_length : (text old tail : List ℕ) (start : ℕ) → length text ≡ 76 → length old ≡ 76
     → start ≤ 38 → drop start text ≡ tail ++ drop 38 old → length tail + start ≡ 38
-tail_length text old tail start l l' within written = omega (
-  arith,
-  l,
-  l',
-  within,
-  ap length written,
-  length-append tail (drop 38 old),
-  length-drop start text,
-  length-drop 38 old,
-)
+tail_length text old tail start l l' within written =
+    let whole = ap length written in
+    let parts = length-append tail (drop 38 old) in
+    omega (arith, length-drop start text, length-drop 38 old)
 
 -- of what is appended from the start of a line on, as much is cut off as stands before it
 pub cut_off : (old new text line rest : List ℕ) (start n : ℕ)
     → new ≡ old ++ take 38 (drop start text) → n ≡ length old + (38 - start)
     → drop start text ≡ line ++ rest → length line + start ≡ 38 → take n new ≡ old ++ line
 cut_off old new text line rest start n e is written whole =
-    let split : 38 ≡ length line + start = omega (arith, whole) in
-    let shown : take 38 (drop start text) ≡ line ++ take start rest =
-    cc (take-append-add line rest start) in
-    let seam : n ≡ length (old ++ line) = omega (arith, is, whole, length-append old line) in
-    cc (append_assoc old line (take start rest), take-append_seam (old ++ line) (take start rest))
+    let shown = take-append-add line rest start in
+    let seam = take-append_seam (old ++ line) (take start rest) in
+    let long = length-append old line in
+    grind (arith, append_assoc old line (take start rest))
 
 -- ---- the line of a node with a name, and of one without
 
@@ -79,17 +71,14 @@ pub unnamed_written : {A E : Type 0} (r : Result A E) (old new name : List ℕ) 
     (set : Option (Use SetKey InformationSet)) (outcome : ℕ) → name ≡ [] → letter ≡ mover_letter set
     → OnOk r (new ≡ old ++ letter ∷ 32 ∷ 34 ∷ 34 ∷ tail_text set outcome)
     → OnOk r (new ≡ old ++ plain_line name set outcome)
-unnamed_written (Ok a) old new name letter set outcome e l h = cc
-unnamed_written (Err a) old new name letter set outcome e l h = tt
+unnamed_written r old new name letter set outcome e l h = grind arith
 
 pub named_written : {A E : Type 0} (r : Result A E) (old o1 o2 o3 new name : List ℕ) (letter : ℕ)
     (set : Option (Use SetKey InformationSet)) (outcome : ℕ) → letter ≡ mover_letter set
     → o1 ≡ old ++ letter ∷ [] → o2 ≡ o1 ++ 32 ∷ [] → o3 ≡ o2 ++ quoted name
     → OnOk r (new ≡ o3 ++ tail_text set outcome)
     → OnOk r (new ≡ old ++ plain_line name set outcome)
-named_written (Ok a) old o1 o2 o3 new name letter set outcome l e1 e2 e3 h =
-    grind (arith, append_assoc)
-named_written (Err a) old o1 o2 o3 new name letter set outcome l e1 e2 e3 h = tt
+named_written r old o1 o2 o3 new name letter set outcome l e1 e2 e3 h = grind (arith, append_assoc)
 
 -- ---- a node without an outcome
 
@@ -98,33 +87,18 @@ IsPlain None = Unit {0}
 IsPlain (Some set) = set.description ≡ None
 
 pub plain_none : (set : Option SetUse) → set ≡ None → IsPlain (option_map set_use_of set)
-plain_none None e = tt
-plain_none (Some used) e = absurd cc
+plain_none set e = grind arith
 
 pub plain_some : (set : Option SetUse) (used : SetUse) → set ≡ Some used
     → is_some used.description ≡ false → IsPlain (option_map set_use_of set)
-plain_some None used e n = absurd cc
-plain_some (Some held) used e n = grind arith
-
-null_tail : number_then 0 (10 ∷ []) ≡ (32 ∷ 48 ∷ []) ++ 10 ∷ []
-null_tail = ap (λ (bs : List ℕ). 32 ∷ (bs ++ 10 ∷ [])) zero_text
+plain_some set used e n = grind arith
 
 null_line : (name : List ℕ) (set : Option (Use SetKey InformationSet)) → IsPlain set
     → plain_line name set 0 ≡ node_line (record { name = name; set = set; outcome = None })
-null_line name None plain = grind (arith, zero_text, append_assoc)
-null_line name (Some set) plain = by set.key.player set.description plain
-  where
-    by : (player : ℕ) (o : Option InformationSet) → o ≡ None
-        → player_letter player ∷ 32 ∷ (quoted name
-        ++ player_then player (number_then set.key.number (number_then 0 (10 ∷ []))))
-        ≡ spaced ((mover_fields name player ++ described_fields set_fields set.key.number o)
-        ++ codes "0" ∷ []) ++ 10 ∷ []
-    by zero o e = grind (arith, null_tail, then_joined, append_assoc)
-    by (suc player) o e = grind (arith, null_tail, then_joined, append_assoc)
+null_line name set plain = grind (arith, zero_text, then_joined, append_assoc)
 
 pub null_written : {A E : Type 0} (r : Result A E) (old new name : List ℕ)
     (set : Option (Use SetKey InformationSet)) (n : FileNode)
     → n ≡ record { name = name; set = set; outcome = None } → IsPlain set
     → OnOk r (new ≡ old ++ plain_line name set 0) → OnOk r (new ≡ old ++ node_line n)
-null_written (Ok a) old new name set n e plain h = cc (null_line name set plain)
-null_written (Err a) old new name set n e plain h = tt
+null_written r old new name set n e plain h = grind (arith, null_line)

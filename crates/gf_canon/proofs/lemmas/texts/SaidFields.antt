@@ -23,8 +23,7 @@ Say fields P = (tokens : List Token) × AreSaid fields tokens × P tokens
 module _ {X : Type 0} (P : List Token → X → Type 0) where
   more : (fields others : List (List ℕ)) (x : X) (xs : List X) → Say fields (λ ts. P ts x)
       → Say others (λ ts. Each P ts xs) → Say (fields ++ others) (λ ts. Each P ts (x ∷ xs))
-  more fields others x xs h k =
-      (h.0 ++ k.0, both h.1 k.1, (h.0, k.0, refl, h.2, k.2))
+  more fields others x xs h k = (h.0 ++ k.0, both h.1 k.1, (h.0, k.0, refl, h.2, k.2))
 
   pub say_each : (fields : X → List (List ℕ)) (xs : List X)
       → AllByRecursion (λ x. Say (fields x) (λ ts. P ts x)) xs

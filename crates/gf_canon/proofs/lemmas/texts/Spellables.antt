@@ -8,7 +8,7 @@ use Common.{Decides-eqb, IsSpellable, mapped_from, all_of_each, AreDistinct, fla
 use Common.{length-map, first_uses, IsEquality, entry_used, all_images, all_weaker, used_sets, Bool}
 use Common.{of_filter, eqb-true, or_cases, same_set, was_used, IsLabel, flatten, sets_of, in_keys}
 use Common.{length, nat_eq, ne_eqb, SetKey, IsGame, subst, arith, true, List, Game, each, ◌≡◌, ◌^◌}
-use Common.{◌<◌, eqb, ◌∷◌, map, sym, ◌∙◌, inl, inr, Has, [], ℕ}
+use Common.{◌<◌, eqb, ◌∷◌, map, sym, ◌∙◌, Has, [], ℕ}
 use Rattle.std.specs.List.{IsDistinct}
 use Rattle.std.proofs.lemmas.Map.Steps.{length-le_from_distinct_below}
 use Rattle.gf_tree.specs.Description.{Outcome}
@@ -23,8 +23,7 @@ distinct_tests (x ∷ xs) h = grind (arith, all_of_each, ne_eqb, distinct_tests 
 
 among : (xs : List ℕ) (q : ℕ) → list_any (eqb q) xs ≡ true → Has xs q
 among [] q h = absurd cc
-among (x ∷ xs) q h = elim (or_cases (eqb q x) (list_any (eqb q) xs) h)
-    [ inl e ↦ inl (sym (eqb-true q x e)) | inr e ↦ inr (among xs q e) ]
+among (x ∷ xs) q h = grind (arith, or_cases, eqb-true, among xs q)
 
 few : (xs : List ℕ) (n : ℕ) → 0 < n → AreDistinct xs → AllByRecursion (λ x. (0 < x) × (x < n)) xs
     → length xs < n
@@ -36,24 +35,19 @@ few xs n some distinct all =
 distinct_images : {K L : Type 0} (f : K → L) (ks : List K) → AreApart f ks → AreDistinct ks
     → AreDistinct (map f ks)
 distinct_images f [] apart h = tt
-distinct_images f (k ∷ ks) apart h =
-    grind (arith, mapped_from, distinct_images f ks (λ a b i j. apart a b (inr i) (inr j)) h.1)
+distinct_images f (k ∷ ks) apart h = grind (arith, mapped_from, distinct_images f ks)
 
 number_below : {K : Type 0} (same : K → K → Bool) → IsEquality same
     → (value : K → ℕ) (ks : List K) (key : K) (n : ℕ) → 0 < n → Has ks key → AreApart value ks
     → ((k : K) → Has ks k → (0 < value k) × (value k < n)) → first_use_number same ks key < n
 number_below same equality value ks key n some i apart small =
     let us = first_uses same ks in
-    let images =
-    distinct_images value us (λ a b j k. apart a b (was_used same ks a j) (was_used same ks b k))
-    (first_uses_distinct same equality ks) in
-    let all =
-    all_of_each (λ x. (0 < x) × (x < n)) (map value us) (λ x j. let m = mapped_from value us x j in
-    subst (λ y. (0 < y) × (y < n)) m.2 (small m.0 (was_used same ks m.0 m.1))) in
+    let once = first_uses_distinct same equality ks in
+    let images = distinct_images value us (grind (arith, apart, was_used same ks)) once in
+    let all = all_of_each (λ x. (0 < x) × (x < n)) (map value us)
+    (λ x j. grind (arith, mapped_from, was_used, small)) in
     let size = few (map value us) n some images all in
-    let length_is = length-map us value in
-    let at_most = number_at_most same equality ks key i in
-    omega (arith, size, length_is, at_most)
+    omega (arith, size, length-map us value, number_at_most same equality ks key i)
 
 -- ---- the canonical game
 
@@ -62,9 +56,8 @@ of_used : {K D : Type 0} (same : K → K → Bool) → IsEquality same
     → (used : List K) (es : List (Described K D)) → map (λ e. e.key) es ≡ first_uses same used
     → (P : K → Type 0) → AllByRecursion (λ e. P e.key) es → (key : K) → Has used key → P key
 of_used same equality used es entries P all key i =
-    let e = mapped_from (λ (e : Described _ _). e.key) es key
-    (in_keys same equality used es key entries i) in
-    subst P e.2 (each (λ (e : Described _ _). P e.key) es e.0 all e.1)
+    let e = mapped_from (λ e. e.key) es key (in_keys same equality used es key entries i) in
+    subst P e.2 (each (λ e. P e.key) es e.0 all e.1)
 
 pub canonical_is_spellable : (g : Game) → IsGame g → IsSpellable g → IsSpellable (canonical_game g)
 canonical_is_spellable g game can = record {

@@ -1,5 +1,5 @@
 -- What is told of a file determines what it means.
-use Rattle.gf_canon.proofs.Common.{ℕ, List, Result, Ok, Err, IfOk, refl, Fault, Heading, Told}
+use Rattle.gf_canon.proofs.Common.{ℕ, List, Result, IfOk, refl, Fault, Heading, Told, arith}
 use Rattle.gf_canon.proofs.Common.{extensive, strategic}
 use Rattle.gf_canon.specs.KindOfFile.{MeansFileOf}
 use Rattle.gf_canon.specs.inner.ToldFile.{IsToldFile}
@@ -12,5 +12,4 @@ module _ {T : Type 0} (holds : T → Heading → List Told → Type 0) (to : T) 
 
   pub told_kind : (result : Result FileKind Fault) → IfOk result (IsToldFile holds to bytes)
       → IfOk result (MeansFileOf bytes)
-  told_kind (Ok kind) h = means_file_of kind h
-  told_kind (Err fault) h = tt
+  told_kind result h = grind (arith, means_file_of)

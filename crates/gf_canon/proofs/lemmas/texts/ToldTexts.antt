@@ -1,9 +1,8 @@
 -- The text of what was told, line by line, is the text of the game.
-use Rattle.gf_canon.proofs.Common.{◌≡◌, ℕ, List, [], ◌∷◌, ◌++◌, map, refl, sym, ◌∙◌, append_assoc}
-use Rattle.gf_canon.proofs.Common.{flat_map, flat_map-append, FileNode, Game, Heading, Told}
-use Rattle.gf_canon.proofs.Common.{canonical_game, canonical_text, extensive, heading_by, node_by}
-use Rattle.gf_canon.proofs.Common.{file_by, heading_text, node_line, told_text, Names, Kept, Aside}
-use Rattle.gf_canon.proofs.Common.{game_by, game_text, append-nil}
+use Rattle.gf_canon.proofs.Common.{flat_map-append, canonical_game, canonical_text, append_assoc, ℕ}
+use Rattle.gf_canon.proofs.Common.{append-nil, extensive, game_text, node_line, told_text, FileNode}
+use Rattle.gf_canon.proofs.Common.{flat_map, Heading, file_by, game_by, node_by, Aside, Names, Game}
+use Rattle.gf_canon.proofs.Common.{Kept, List, Told, refl, ◌++◌, map, ◌∷◌, ◌≡◌, [], arith}
 use Rattle.gf_tree.specs.ToldGame.{HasToldGame}
 use Rattle.gf_canon.proofs.lemmas.sameness.NodesNamed.{heading_is, nodes_by}
 use Rattle.gf_canon.proofs.lemmas.texts.Fields.{game_text_is, node_lines}
@@ -14,13 +13,7 @@ pub one_line_more : (names : Names) (heading : Heading) (told : List Told) (t : 
     → old ≡ told_text names heading told → new ≡ old ++ node_line n
     → new ≡ told_text names heading (told ++ t ∷ [])
 one_line_more names heading told t n old new is before more =
-    let front = heading_text (heading_by names heading) in
-    let line = λ (x : Told). node_line (node_by names x.node) in
-    cc (
-      append_assoc front (flat_map line told) (line t),
-      append-nil (line t),
-      flat_map-append line told (t ∷ []),
-    )
+    grind (arith, append_assoc, append-nil, flat_map-append)
 
 lines_of_told : (names : Names) (told : List Told)
     → flat_map (λ t. node_line (node_by names t.node)) told
@@ -38,13 +31,12 @@ pub told_is_canonical : {T : Type 0} (text : T → List ℕ) (kept : T → Type 
     (to : T) (g : Game)
     → HasToldGame (λ to heading told. kept to × (text to ≡ told_text names heading told)) to g
     → text to ≡ canonical_text (file_by names (extensive g))
-told_is_canonical text kept names to g h =
-    let heading = sym (heading_is names g) in
-    h.holding.1
-    ∙ (λ i. heading_text (heading i) ++ lines_of_told names h.told i)
-    ∙ cc (
-      h.nodes,
-      nodes_by names g,
-      game_text_is (canonical_game (game_by names g)),
-      text_by names g,
-    )
+told_is_canonical text kept names to g h = cc (
+  h.holding.1,
+  heading_is names g,
+  lines_of_told names h.told,
+  h.nodes,
+  nodes_by names g,
+  game_text_is (canonical_game (game_by names g)),
+  text_by names g,
+)

@@ -11,9 +11,5 @@ returns-clause-same c = same_as_first c.args.names c.same_as.result c.args.a.now
     (file_of_listed c.in-Ok-list_file.first) c.in-Ok-list_file.ensures.spelled
     c.same_as.ensures.same c.same_as.ensures.refused
 
-pub returns-clause-accepted : goal.returns-clause-accepted
-returns-clause-accepted c = grind arith
-
 pub returns-clause-refused : goal.returns-clause-refused
-returns-clause-refused c =
-    grind (arith, c.in-Ok-list_file.ensures.spelled, c.same_as.ensures.refused)
+returns-clause-refused c = grind arith

@@ -1,13 +1,6 @@
 use Rattle.gf_canon.proofs.Common.{arith, outcome_numbers, Outcome, outcome_numbers_carried}
-use Rattle.gf_canon.proofs.lemmas.numbers.PairsInTurn.{both_there, pair_more, pairs_done}
+use Rattle.gf_canon.proofs.lemmas.numbers.PairsInTurn.{pair_more, pairs_done}
 use Rattle.gf_canon.proofs.numbering.pairs.tell_outcomes.Goals as goal
-
-pub loop-before-preserved-in_default : goal.loop-before-preserved-in_default
-loop-before-preserved-in_default g c = λ r told carries held.
-    let there = both_there r.outcome _ _
-    (outcome_numbers_carried r c.args.g.now c.args.h.now c.requires.0 c.requires.1 carries)
-    c.loop-before.before (omega arith) in
-    grind arith
 
 pub loop-before-preserved : goal.loop-before-preserved
 loop-before-preserved g c = λ r told carries held.

@@ -1,14 +1,8 @@
-use Rattle.gf_canon.proofs.Common.{rules, List, [], ap, length, arith, refl, subst, length-map}
+use Rattle.gf_canon.proofs.Common.{List, [], ap, length, arith, refl, subst, length-map}
 use Rattle.gf_canon.proofs.Common.{on_ok_weaker, label_of, renumbering_pairs, NumberPair}
 use Rattle.gf_canon.proofs.lemmas.numbers.CarriedPairs.{only_pairs}
-use Rattle.gf_canon.proofs.lemmas.numbers.PairsInTurn.{all_pairs, chance_done, player_more}
+use Rattle.gf_canon.proofs.lemmas.numbers.PairsInTurn.{all_pairs}
 use Rattle.gf_canon.proofs.numbering.pairs.tell_pairs.Goals as goal
-
-pub loop-before-init : goal.loop-before-init
-loop-before-init g c = λ r told carries held. search (rules, chance_done)
-
-pub loop-before-preserved : goal.loop-before-preserved
-loop-before-preserved g c = λ r told carries held. grind (arith, player_more)
 
 pub returns : goal.returns
 returns g c =

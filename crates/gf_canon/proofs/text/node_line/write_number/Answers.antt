@@ -1,5 +1,5 @@
-use Rattle.gf_canon.proofs.Common.{◌≡◌, ◌∷◌, ◌++◌, [], List, ℕ, append_assoc, arith, decimal, drop, refl}
-use Rattle.gf_canon.proofs.Common.{replicate}
+use Rattle.gf_canon.proofs.Common.{append_assoc, replicate, decimal, arith, List, drop, refl, ◌++◌}
+use Rattle.gf_canon.proofs.Common.{◌∷◌, ◌≡◌, [], ℕ}
 use Rattle.gf_canon.proofs.lemmas.texts.PlainLines.{tail_length}
 use Rattle.gf_canon.proofs.text.node_line.write_number.Goals as goal
 
