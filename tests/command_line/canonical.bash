@@ -106,4 +106,26 @@ check_not_rewritten() { # FOLDER
     run canon --write "$pipe"
     wait
     judge_refusal "canon --write of a pipe" "$pipe: E21" 4
+    check_too_long "$1"
+}
+
+# A file of 2 MB whose canonical text has 42 MB: one outcome, at 2^20 profiles.
+check_too_long() { # FOLDER
+    local folder=$1/long long=$1/long/long.nfg
+    mkdir "$folder"
+    {
+        printf 'NFG 1 R "" {%s } {%s } ""\n' "$(printf ' "%d"' {1..20})" "$(printf ' 2%.0s' {1..20})"
+        printf '{ { "" %s } }\n' "$(printf '0 %.0s' {1..20})"
+        yes 1 | head -n $((1 << 20)) | tr '\n' ' '
+    } >"$long"
+    cp "$long" "$scratch/long.nfg"
+    run canon --write --explain "$folder"
+    judge_refusal "canon --write of a text that is too long to be read again" \
+        "$long: E21: cannot write the output: file too large" 4
+    run canon --write "$folder"
+    judge_refusal "canon --write of such a text, without --explain" "$long: E21" 4
+    ls -A "$folder" >"$scratch/out"
+    judge_lines "canon --write of such a text leaves no other files" 0 long.nfg
+    cp "$long" "$scratch/out"
+    judge "canon --write of such a text: the file stays" "$scratch/long.nfg" "$nothing" 0
 }

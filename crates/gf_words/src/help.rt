@@ -52,8 +52,9 @@ the same get the same text.
 
 With --check, nothing is written but the names of files that differ from their
 canonical texts, and the status is 1 if there are any. With --write, each of
-these files is replaced by its canonical text, and a file that is refused stays
-as it is. A folder means the game files in it and below it, as for hash.
+these files is replaced by its canonical text. A file that is refused, or whose
+text would be too long to be read again, stays as it is. A folder means the game
+files in it and below it, as for hash.
 
 A file that breaks the format is refused: nothing is written, and standard error
 has one line, such as E4 at 40..43, with a code and the place in bytes from 0;

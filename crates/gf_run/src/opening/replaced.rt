@@ -4,7 +4,8 @@
 use crate::opening::inputs::Unreplaced;
 use crate::streams::counted::Counted;
 use crate::streams::last_error::LastError;
-use crate::texts::answer::push_text;
+use crate::streams::sink::push_all;
+use crate::streams::source::LIMIT;
 use gf_nfg::TextPieces;
 use std::alloc::AllocError;
 use std::fs::{File, Permissions};
@@ -50,21 +51,26 @@ fn new_file_beside(rt: &HostRuntime, path: &str) -> Result<NewFile, Unreplaced> 
     Err(Unreplaced::System(io::Error::from(ErrorKind::AlreadyExists)))
 }
 
-/// Gives a new file its permissions and its text.
-fn fill(file: File, permissions: Permissions, text: TextPieces) -> Result<(), io::Error> {
+/// Gives a new file its permissions and its text, unless that is longer than what the program reads.
+fn fill(file: File, permissions: Permissions, mut text: TextPieces) -> Result<(), io::Error> {
     file.set_permissions(permissions)?;
     let mut output = Counted::new(file);
-    match push_text(&mut output, text) {
-        Ok(()) => Ok(()),
-        Err(_) => {
+    let mut room = LIMIT;
+    while text.advance() {
+        let Some(left) = room.checked_sub(text.piece().len()) else {
+            return Err(io::Error::from(ErrorKind::FileTooLarge));
+        };
+        room = left;
+        if push_all(&mut output, text.piece()).is_err() {
             let none = io::Error::from(ErrorKind::WriteZero);
-            Err(output.last_error().unwrap_or(none))
+            return Err(output.last_error().unwrap_or(none));
         }
     }
+    Ok(())
 }
 
 /// Puts a text in the place of the file of this name, through links, and with its permissions.
-/// Only a file can be replaced, no pipe or device.
+/// Only a file can be replaced, no pipe or device, and only by a text that can be read again.
 pub fn replace(rt: &HostRuntime, name: &str, text: TextPieces) -> Result<(), Unreplaced> {
     let path = fs::canonicalize(rt, name)?.into_string();
     let path = path.as_str();
