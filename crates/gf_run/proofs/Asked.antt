@@ -1,7 +1,7 @@
 -- A reader or a writer that is asked turn by turn.
-use Rattle.std.proofs.Common.{◌≡◌, ℕ, ◌+◌, ◌-◌, ◌<◌, ◌≤◌, List, [], ◌++◌, length, take, drop, add-one}
-use Rattle.std.proofs.Common.{append_assoc, arith, length-append, length-drop, refl}
-use Rattle.std.proofs.Common.{take-append-drop, ◌∙◌}
+use Rattle.std.proofs.Common.{◌≡◌, ℕ, ◌+◌, ◌-◌, ◌<◌, ◌≤◌, List, ◌++◌, length, take, drop, add-one}
+use Rattle.std.proofs.Common.{append_assoc, arith, length-append, length-drop}
+use Rattle.std.proofs.Common.{take-append-drop}
 use Rattle.std.proofs.KnownBytes.{Appends-nil, Appends-trans, Keeps-refl, Keeps-trans}
 use Rattle.std.proofs.lemmas.List.{take_all}
 use Rattle.std.specs.Io.KnownBytes.{Appends, Keeps}
@@ -22,12 +22,7 @@ module _ {S : Type 0} (stream : Stream S) (P : List ℕ → Type 0) where
   -- no interruption yet
   pub asked_first : (s : S) → IsAskedAgain 0 s s
   unfolding Interruptions
-  asked_first s = record {
-    kept = Keeps-refl _;
-    interrupted = refl;
-    grown = omega arith;
-    counted = λ h. absurd (omega arith);
-  }
+  asked_first s = grind (arith, Keeps-refl)
 
   -- one more interruption
   pub asked_again : (n : ℕ) (old mid new : S) → IsAskedAgain n old mid
@@ -35,27 +30,14 @@ module _ {S : Type 0} (stream : Stream S) (P : List ℕ → Type 0) where
       → stream.count new ≡ next_count (stream.count mid) → IsInterrupted stream.gives P mid new
       → IsAskedAgain (n + 1) old new
   unfolding Interruptions
-  asked_again n old mid new before kept next last =
-      let grown = before.grown in
-      record {
-        kept = Keeps-trans _ _ _ before.kept kept;
-        interrupted = rw add-one (mid, before.interrupted, last);
-        grown = omega arith;
-        counted = λ _. record { risen = omega arith };
-      }
+  asked_again n old mid new before kept next last = grind (arith, Keeps-trans, add-one)
 
 -- ---- a text that is written turn by turn
 
 module _ {S : Type 0} (writer : Stream S) where
   -- none was
   pub nothing_yet : (s : S) (text : List ℕ) → IsBegun writer s s text text
-  nothing_yet s text = record {
-    taken = [];
-    front = refl;
-    appended = Appends-nil _;
-    turns = none _;
-    grown = omega arith;
-  }
+  nothing_yet s text = grind (arith, Appends-nil, none)
 
   -- what was taken of a text that begins so is taken of any text that goes on so
   abbrev pub Goes : S → List ℕ → S → List ℕ → Type 0
@@ -67,11 +49,7 @@ module _ {S : Type 0} (writer : Stream S) where
   module _ (start old new : S) (text offered after : List ℕ)
       (begun : IsBegun writer start old text (offered ++ after)) (some : 0 < length offered) where
     next : IsNext text begun.taken offered
-    next = record {
-      some = some;
-      after = after;
-      in_text = append_assoc begun.taken offered after ∙ begun.front;
-    }
+    next = grind (arith, append_assoc begun.taken offered after)
 
     -- a turn took the first n bytes of it
     pub takes : (n : ℕ) → Appends (writer.known old) (writer.known new) (take n offered)

@@ -1,6 +1,6 @@
 -- While a run goes over files.
-use Rattle.std.proofs.Common.{◌≡◌, ℕ, List, ◌∷◌, ◌+◌, ◌<◌, ◌≤◌, drop, get_or, inl, inr, length}
-use Rattle.std.proofs.Common.{max, sym}
+use Rattle.std.proofs.Common.{◌≡◌, ℕ, List, ◌∷◌, ◌+◌, ◌<◌, ◌≤◌, drop, get_or, length}
+use Rattle.std.proofs.Common.{arith, max}
 use Rattle.std.proofs.lemmas.List.{drop_all, drop_more}
 use Rattle.gf_run.specs.Performs.{GoesOver}
 use Rattle.gf_run.specs.declared.collections.file.CollectionFile.{CollectionFile}
@@ -24,15 +24,12 @@ module _ {A B : Type 0} (Step : CollectionFile → ℕ → A → A → Type 0)
         (is : file ≡ get_or files at file) where
       pub goes_on : (own more : ℕ) (next : A) → Step file own now next → more ≡ max worst own
           → IsOn (at + 1) start more next
-      goes_on own more next step is_more status end rest = so_far status end
-          (rw (left_at files at file within is) (inr (own, next, step, rw (sym is_more) rest)))
+      goes_on own more next step is_more status end rest = grind (arith, left_at)
 
       pub stops : (own status : ℕ) (end : B) → Stop file own now end → status ≡ max worst own
           → GoesOver Step Stop Close files 0 status start end
-      stops own status end stop is_status =
-          so_far status end (rw (left_at files at file within is) (inl (own, stop, is_status)))
+      stops own status end stop is_status = grind (arith, left_at)
 
     pub closes : (own status : ℕ) (end : B) → length files ≤ at → Close own now end
         → status ≡ max worst own → GoesOver Step Stop Close files 0 status start end
-    closes own status end past close is_status =
-        so_far status end (rw (drop_all at files past) (own, close, is_status))
+    closes own status end past close is_status = grind (arith, drop_all)

@@ -1,7 +1,7 @@
 -- How a file is put into the group of its hash.
 use Rattle.std.proofs.Common.{length, get_or, false, subst, arith, Bool, true, cond, List, ◌++◌}
 use Rattle.std.proofs.Common.{refl, ◌≡◌, ◌<◌, ◌≤◌, ◌∷◌, map, set, sym, ◌∙◌, [], inl, inr}
-use Rattle.std.proofs.Common.{ap, ℕ}
+use Rattle.std.proofs.Common.{ℕ}
 use Rattle.std.proofs.lemmas.Bool.{both_ways}
 use Rattle.std.proofs.lemmas.Bool.Decides.{Decides-eqb}
 use Rattle.std.proofs.lemmas.List.{append-nil, get_or-map, length-map, map-append, map-set}
@@ -11,7 +11,7 @@ use Rattle.std.specs.List.{list_any, position_or_len}
 use Rattle.std.specs.Prelude.{◌⊎◌}
 use Rattle.gf_tree.specs.FiniteMap.{first_uses}
 use Rattle.gf_tree.proofs.Offered.{AreDistinct, Has, IsEquality, first_uses_distinct, is_used}
-use Rattle.gf_tree.proofs.Offered.{known_more, map_same, map_twice, used_before}
+use Rattle.gf_tree.proofs.Offered.{known_more, map_twice, used_before}
 use Rattle.gf_tree.proofs.Offered.{was_used}
 use Rattle.indexmap.specs.IndexSet.{insert_key}
 use Rattle.gf_run.specs.Duplicates.{HashedFile, IsKeptOf, KeptNames, hashes_of, having, names_of}
@@ -31,13 +31,11 @@ module _ {K : Type 0} (same : K → K → Bool) (equality : IsEquality same) whe
       → first_uses same (ks ++ k ∷ []) ≡ insert_key same (first_uses same ks) k
   first_uses_more ks k = grind (
     arith,
-    known_more same equality ks k,
-    finds ks k,
-    finds (first_uses same ks) k,
-    is_used same equality ks k,
-    was_used same ks k,
-    used_before same equality ks k,
-    used_before same equality (first_uses same ks) k,
+    known_more same equality,
+    finds,
+    is_used same equality,
+    was_used same,
+    used_before same equality,
   )
 
   -- ---- the place of a key
@@ -83,89 +81,71 @@ each_more files f h = grind (arith, filter-append, map-append)
 
 hashes_more : (files : List HashedFile) (f : HashedFile)
     → hashes_of (files ++ f ∷ []) ≡ insert_key same_hash (hashes_of files) f.hash
-hashes_more files f =
-    ap (first_uses same_hash) (map-append (λ file. file.hash) files (f ∷ []))
-    ∙ first_uses_more same_hash same_hash_equality (map (λ file. file.hash) files) f.hash
+hashes_more files f = grind (arith, map-append, first_uses_more same_hash same_hash_equality)
 
 names_by_more : (files : List HashedFile) (f : HashedFile) (hashes : List (List ℕ))
     → map (λ h. names_of (having files h) ++ cond (same_hash h f.hash) (f.name ∷ []) []) hashes
     ≡ map (λ h. names_of (having (files ++ f ∷ []) h)) hashes
-names_by_more files f hashes = sym (map_same (λ h. names_of (having (files ++ f ∷ []) h))
-    (λ h. names_of (having files h) ++ cond (same_hash h f.hash) (f.name ∷ []) []) hashes
-    (λ h m. each_more files f h))
+names_by_more files f hashes = simp each_more
 
 is_kept : (files : List HashedFile) (kept : KeptNames) (hashes : List (List ℕ))
     → kept.hashes ≡ hashes_of files → hashes ≡ hashes_of files
     → kept.names ≡ map (λ h. names_of (having files h)) hashes → IsKeptOf files kept
-is_kept files kept hashes is same names = record {
-  hashes = is;
-  names = names ∙ sym (map_twice names_of (having files) hashes)
-      ∙ ap (λ (hs : List (List ℕ)). map names_of (map (having files) hs)) same;
-}
+is_kept files kept hashes is same names = grind (arith, map_twice)
 
 module _ (files : List HashedFile) (kept : KeptNames) (is : IsKeptOf files kept) (f : HashedFile)
     (new : KeptNames) (inserted : new.hashes ≡ insert_key same_hash kept.hashes f.hash)
     (at : ℕ) (placed : at ≡ position_or_len (same_hash f.hash) kept.hashes) where
   hashes_are : new.hashes ≡ hashes_of (files ++ f ∷ [])
-  hashes_are = inserted ∙ ap (λ (hs : List (List ℕ)). insert_key same_hash hs f.hash) is.hashes
-      ∙ sym (hashes_more files f)
+  hashes_are = cc (inserted, is.hashes, hashes_more files f)
 
   names_are : kept.names ≡ map (λ h. names_of (having files h)) kept.hashes
-  names_are = is.names ∙ map_twice names_of (having files) (hashes_of files)
-      ∙ ap (λ (hs : List (List ℕ)). map (λ h. names_of (having files h)) hs) (sym is.hashes)
+  names_are = rw (is.hashes, ← map_twice names_of (having files)) is.names
 
   as_many : length kept.names ≡ length kept.hashes
-  as_many = ap (λ (l : List (List (List ℕ))). length l) names_are
-      ∙ length-map kept.hashes (λ h. names_of (having files h))
+  as_many = grind (arith, length-map, is.names, is.hashes)
 
   apart : AreDistinct kept.hashes
-  apart = subst (λ (hs : List (List ℕ)). AreDistinct hs) (sym is.hashes)
-      (first_uses_distinct same_hash same_hash_equality (map (λ file. file.hash) files))
+  apart = rw is.hashes (first_uses_distinct same_hash same_hash_equality _)
 
   -- its hash was there, and its name goes into the group at its place
   pub more_there : at < length kept.names
       → new.names ≡ set kept.names at (get_or kept.names at [] ++ f.name ∷ [])
       → IsKeptOf (files ++ f ∷ []) new
-  more_there within named =
-      by (has_place same_hash same_hash_equality f.hash kept.hashes)
-    where
-      by : HasPlace same_hash same_hash_equality f.hash kept.hashes
-          → IsKeptOf (files ++ f ∷ []) new
-      by (inr h) = absurd (omega (arith, within, as_many, placed, h.1))
-      by (inl h) =
-          let stay : new.hashes ≡ kept.hashes = rw h.0 at inserted in
-          let put = at_key same_hash same_hash_equality (λ h. names_of (having files h)) f.name
-          f.hash kept.hashes [] apart h.1 in
-          is_kept (files ++ f ∷ []) new kept.hashes hashes_are (sym stay ∙ hashes_are)
-          (rw (names_are, placed) at named ∙ put ∙ names_by_more files f kept.hashes)
+  more_there within named = elim (has_place same_hash same_hash_equality f.hash kept.hashes) [
+    | inr h ↦ absurd (omega (arith, within, as_many, placed, h.1))
+    | inl h ↦
+        let stay : new.hashes ≡ kept.hashes = rw h.0 at inserted in
+        let put = at_key same_hash same_hash_equality (λ h. names_of (having files h)) f.name
+        f.hash kept.hashes [] apart h.1 in
+        is_kept (files ++ f ∷ []) new kept.hashes hashes_are (sym stay ∙ hashes_are)
+        (rw (names_are, placed) at named ∙ put ∙ names_by_more files f kept.hashes)
+  ]
 
   -- its hash is new, and so is its group
   pub more_new : length kept.names ≤ at → new.names ≡ kept.names ++ (f.name ∷ []) ∷ []
       → IsKeptOf (files ++ f ∷ []) new
-  more_new past named =
-      by (has_place same_hash same_hash_equality f.hash kept.hashes)
-    where
-      by : HasPlace same_hash same_hash_equality f.hash kept.hashes
-          → IsKeptOf (files ++ f ∷ []) new
-      by (inl h) = absurd (omega (arith, past, as_many, placed, h.1))
-      by (inr h) =
-          let grown : new.hashes ≡ kept.hashes ++ f.hash ∷ [] = rw h.0 at inserted in
-          let none : Has kept.hashes f.hash → ⊥ =
-          λ m. both_ways _ h.0 (finds same_hash same_hash_equality kept.hashes f.hash m) in
-          let unused : having files f.hash ≡ [] = none_having files f.hash
-          (λ m. none (subst (λ (hs : List (List ℕ)). Has hs f.hash) (sym is.hashes)
-          (is_used same_hash same_hash_equality (map (λ file. file.hash) files) f.hash m))) in
-          let own : names_of (having (files ++ f ∷ []) f.hash) ≡ f.name ∷ [] =
-          rw (each_more files f f.hash, unused, (same_hash_equality f.hash f.hash).1 refl) refl in
-          let front : kept.names ≡ map (λ h. names_of (having (files ++ f ∷ []) h)) kept.hashes =
-          names_are ∙ none_at same_hash same_hash_equality (λ h. names_of (having files h)) f.name
-          f.hash kept.hashes none ∙ names_by_more files f kept.hashes in
-          is_kept (files ++ f ∷ []) new (kept.hashes ++ f.hash ∷ []) hashes_are
-          (sym grown ∙ hashes_are) (rw (
-            map-append (λ h. names_of (having (files ++ f ∷ []) h)) kept.hashes (f.hash ∷ []),
-            own,
-            ← front,
-          ) named)
+  more_new past named = elim (has_place same_hash same_hash_equality f.hash kept.hashes) [
+    | inl h ↦ absurd (omega (arith, past, as_many, placed, h.1))
+    | inr h ↦
+        let grown : new.hashes ≡ kept.hashes ++ f.hash ∷ [] = rw h.0 at inserted in
+        let none : Has kept.hashes f.hash → ⊥ =
+        λ m. both_ways _ h.0 (finds same_hash same_hash_equality kept.hashes f.hash m) in
+        let unused : having files f.hash ≡ [] = none_having files f.hash
+        (λ m. none (subst (λ (hs : List (List ℕ)). Has hs f.hash) (sym is.hashes)
+        (is_used same_hash same_hash_equality (map (λ file. file.hash) files) f.hash m))) in
+        let own : names_of (having (files ++ f ∷ []) f.hash) ≡ f.name ∷ [] =
+        rw (each_more files f f.hash, unused, (same_hash_equality f.hash f.hash).1 refl) refl in
+        let front : kept.names ≡ map (λ h. names_of (having (files ++ f ∷ []) h)) kept.hashes =
+        names_are ∙ none_at same_hash same_hash_equality (λ h. names_of (having files h)) f.name
+        f.hash kept.hashes none ∙ names_by_more files f kept.hashes in
+        is_kept (files ++ f ∷ []) new (kept.hashes ++ f.hash ∷ []) hashes_are
+        (sym grown ∙ hashes_are) (rw (
+          map-append (λ h. names_of (having (files ++ f ∷ []) h)) kept.hashes (f.hash ∷ []),
+          own,
+          ← front,
+        ) named)
+  ]
 
 -- ---- the vectors that keep them
 
@@ -174,8 +154,7 @@ module _ {V : Type 0} (F : V → List (List ℕ)) (items : List V) (new : V) (na
   pub put_there : (at : ℕ) (group : V) → at < length items → group ≡ get_or items at group
       → F new ≡ F group ++ name ∷ []
       → map F (set items at new) ≡ set (map F items) at (get_or (map F items) at [] ++ name ∷ [])
-  put_there at group within is named =
-      grind (arith, map-set F items at new, get_or-map F items at group [] within)
+  put_there at group within is named = grind (arith, map-set, get_or-map)
 
   pub put_last : F new ≡ name ∷ [] → map F (items ++ new ∷ []) ≡ map F items ++ (name ∷ []) ∷ []
   put_last named = rw (map-append F items (new ∷ []), named) refl

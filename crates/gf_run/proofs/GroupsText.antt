@@ -18,8 +18,7 @@ left_text end false groups = flat_map (λ names. end_text end ++ name_lines end 
 begins : (end : LineEnd) (apart : Bool) (first : List (List ℕ)) (rest : List (List (List ℕ)))
     → left_text end apart (first ∷ rest)
     ≡ (if apart then [] else end_text end) ++ name_lines end first ++ left_text end false rest
-begins end true first rest = refl
-begins end false first rest = refl
+begins end apart first rest = grind arith
 
 module _ (end : LineEnd) (names : List (List (List ℕ))) where
   -- the text so far is that of the groups so far, and says whether any of them has two names
@@ -30,12 +29,7 @@ module _ (end : LineEnd) (names : List (List (List ℕ))) where
 
   pub at_end : (at : ℕ) (text : List ℕ) (apart : Bool) → IsOn at text apart → length names ≤ at
       → (apart ≡ not (list_any has_two names)) × (text ≡ groups_text end (filter has_two names))
-  at_end at text true on past =
-      let none : drop at names ≡ [] = drop_all at names past in
-      (rw none at on.so_far, rw (none, append-nil) at on.told)
-  at_end at text false on past =
-      let none : drop at names ≡ [] = drop_all at names past in
-      (on.so_far, rw (none, append-nil) at on.told)
+  at_end at text apart on past = grind (arith, drop_all, append-nil)
 
   -- the next group, of the vectors that keep them
   module _ {V : Type 0} (F : V → List (List ℕ)) (items : List V) (are : names ≡ map F items)
@@ -46,9 +40,7 @@ module _ (end : LineEnd) (names : List (List (List ℕ))) where
         (rw (are, get_or-map F items at item (F item) within, ← is) refl)
 
     pub passed : length (F item) < 2 → IsOn (at + 1) text apart
-    passed few =
-        let one : has_two (F item) ≡ false = le-ltb 1 (length (F item)) (omega (arith, few)) in
-        record { told = rw (left, one) at on.told; so_far = rw (left, one) at on.so_far }
+    passed few = grind (arith, le-ltb, left)
 
     pub added : 2 ≤ length (F item) → (new : List ℕ)
         → new ≡ text ++ (if apart then [] else end_text end) ++ name_lines end (F item)

@@ -1,9 +1,8 @@
-use Rattle.std.proofs.Common.{append-nil, Option, Some, None, Ok, Err, inl, ap, arith, subst}
+use Rattle.std.proofs.Common.{append-nil, Option, Some, None, inl, ap, arith}
 use Rattle.std.proofs.Common.{sym, ◌≡◌, ◌∙◌, ℕ, List, [], ◌++◌, take, zero, suc, append_assoc}
 use Rattle.std.specs.Prelude.{◌⊎◌}
-use Rattle.std.specs.declared.io.Error.{Error}
 use Rattle.gf_run.specs.Transfers.{HasLength, IsReadWhole}
-use Rattle.gf_run.specs.Wrapped.{Keeps, bytes_kept, kept_reader}
+use Rattle.gf_run.specs.Wrapped.{bytes_kept, kept_reader}
 use Rattle.gf_run.specs.Streams.{Interruptions, Moves, Stream, Transfers, more, none}
 use Rattle.gf_run.specs.declared.streams.kept.Kept.{Kept}
 use Rattle.gf_run.proofs.laws.kept_is_read.Goals as goal
@@ -13,24 +12,10 @@ abbrev IsMore : Option (List ℕ) → List ℕ → Option (List ℕ) → Type 0
 IsMore None bytes after = after ≡ None
 IsMore (Some kept) bytes after = (after ≡ Some (kept ++ bytes)) ⊎ (after ≡ None)
 
--- after an error, what was kept stays
-after_error : (before after : Option (List ℕ)) (buffer : List ℕ) (error : Error)
-    → Keeps before buffer (Err error) after → after ≡ before
-after_error before after buffer error h = grind arith
-
-after_bytes : (before after : Option (List ℕ)) (buffer : List ℕ) (n : ℕ)
-    → Keeps before buffer (Ok n) after → IsMore before (take n buffer) after
-after_bytes before after buffer n h = grind arith
-
 -- after bytes, and then more of them
 IsMore-trans : (before mid after : Option (List ℕ)) (front back : List ℕ) → IsMore before front mid
     → IsMore mid back after → IsMore before (front ++ back) after
 IsMore-trans before mid after front back h k = grind (arith, append_assoc)
-
--- at the end nothing more comes
-all : (bytes : List ℕ) (mid after : Option (List ℕ)) → IsMore (Some []) bytes mid
-    → IsMore mid [] after → (after ≡ Some bytes) ⊎ (after ≡ None)
-all bytes mid after h k = grind (arith, append-nil)
 
 module _ {S : Type 0} (reader : Stream S) where
   after_interruptions : (P : List ℕ → Type 0) (n : ℕ) (old new : Kept S)
@@ -38,18 +23,14 @@ module _ {S : Type 0} (reader : Stream S) where
   unfolding Interruptions
   after_interruptions P zero old new h = ap bytes_kept h
   after_interruptions P (suc n) old new h =
-      let last = h.2 in
-      after_error (bytes_kept h.0) (bytes_kept new) last.bytes last.error last.given.1
-      ∙ after_interruptions P n old h.0 h.1
+      let given = h.2.given.1 in grind (arith, after_interruptions P n old h.0 h.1)
 
   after_turn : (P : List ℕ → Type 0) (bytes : List ℕ) (n : ℕ) (old new : Kept S)
       → Moves (kept_reader reader).gives P bytes n old new
       → IsMore (bytes_kept old) (take n bytes) (bytes_kept new)
   after_turn P bytes n old new h =
-      let mid = h.turn.mid in
-      let same = after_interruptions P h.turn.interruptions old mid h.turn.before in
-      subst (λ (kept : Option (List ℕ)). IsMore kept (take n bytes) (bytes_kept new)) same
-      (after_bytes (bytes_kept mid) (bytes_kept new) bytes n h.turn.last.1)
+      let same = after_interruptions P h.turn.interruptions old h.turn.mid h.turn.before in
+      let last = h.turn.last.1 in grind arith
 
   after_turns : (Asks : List ℕ → ℕ → Type 0) (start moved : List ℕ) (old new : Kept S)
       → bytes_kept old ≡ Some start
@@ -66,9 +47,12 @@ module _ {S : Type 0} (reader : Stream S) where
       → IsReadWhole (kept_reader reader) old new bytes
       → (bytes_kept new ≡ Some bytes) ⊎ (bytes_kept new ≡ None)
   kept_whole bytes old new is h =
-      let before = after_turns _ [] bytes old h.mid is h.read.turns in
-      let last = after_turn _ h.buffer 0 h.mid new h.last in
-      all bytes (bytes_kept h.mid) (bytes_kept new) before last
+      grind (
+        arith,
+        append-nil,
+        after_turns _ [] bytes old h.mid is h.read.turns,
+        after_turn _ h.buffer 0 h.mid new h.last,
+      )
 
 pub returns : goal.returns
 returns g c = λ old new bytes is whole. kept_whole g.S.Source.reader bytes old new is whole

@@ -1,4 +1,4 @@
-use Rattle.std.proofs.Common.{◌≡◌, ◌↔◌, ◌∙◌, ℕ, List, map, refl, sym}
+use Rattle.std.proofs.Common.{◌≡◌, ◌∙◌, ℕ, List, arith, map, refl, sym}
 use Rattle.std.specs.List.{Contains}
 use Rattle.gf_tree.proofs.Offered.{contains, has, has_map, in_filter, is_used, mapped_from}
 use Rattle.gf_tree.proofs.Offered.{of_filter}
@@ -17,9 +17,7 @@ hash_in files hash a m = (same_hash_equality hash a.hash).0
 -- a file that has a hash is in its group
 in_group : (files : List HashedFile) (hash : List ℕ) (a : HashedFile) → Contains files a
     → hash ≡ a.hash → Contains (having files hash) a
-in_group files hash a m e = contains (having files hash) a
-    (in_filter (λ file. same_hash hash file.hash) files a (has files a m)
-    ((same_hash_equality hash a.hash).1 e))
+in_group files hash a m e = grind (arith, contains, has, in_filter, same_hash_equality)
 
 alike : (files : List HashedFile) (a b : HashedFile) → AreInOneGroup files a b → a.hash ≡ b.hash
 alike files a b one =
@@ -39,9 +37,5 @@ together files a b m n e = record {
   second = in_group files a.hash b n e;
 }
 
-one_group : (files : List HashedFile) (a b : HashedFile) → Contains files a → Contains files b
-    → AreInOneGroup files a b ↔ (a.hash ≡ b.hash)
-one_group files a b m n = (alike files a b, together files a b m n)
-
 pub returns : goal.returns
-returns c = one_group
+returns c = λ files a b m n. (alike files a b, together files a b m n)

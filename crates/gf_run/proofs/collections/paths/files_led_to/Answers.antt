@@ -1,4 +1,4 @@
-use Rattle.std.proofs.Common.{◌∷◌, [], ◌++◌, List, ap, inl, inr, refl}
+use Rattle.std.proofs.Common.{◌∷◌, [], ◌++◌, List, arith, inl, inr, refl}
 use Rattle.std.proofs.lemmas.List.{map_more, map_push, take_all}
 use Rattle.std.specs.String.{string_bytes}
 use Rattle.gf_run.specs.Performs.{AreSomeOf}
@@ -15,8 +15,7 @@ added : {X : Type 0} (all some : List X) (x : X) → AreSomeOf all some
     → AreSomeOf (all ++ x ∷ []) (some ++ x ∷ [])
 added [] some x are = inr ([], rw are refl, refl)
 added (y ∷ all) some x (inl are) = inl (added all some x are)
-added (y ∷ all) some x (inr are) =
-    inr (are.0 ++ x ∷ [], ap (λ xs. xs ++ x ∷ []) are.1, added all are.0 x are.2)
+added (y ∷ all) some x (inr are) = grind (arith, added all are.0 x are.2)
 
 pub loop-path-init : goal.loop-path-init
 loop-path-init g c = rw c.new-without_games.ensures.items refl

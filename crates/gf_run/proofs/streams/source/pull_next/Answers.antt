@@ -25,30 +25,10 @@ read_more reader bytes buffer room n old mid new before asked some consumed turn
 -- none more came
 none_more : (a b c : Option (List ℕ)) (bytes buffer : List ℕ) (n : ℕ) → n ≡ 0 → Consumes a b bytes
     → Consumes b c (take n buffer) → Consumes a c bytes
-none_more a b c bytes buffer n none first last =
-    let all : Consumes a c (bytes ++ take n buffer) = Consumes-trans a b c bytes _ first last in
-    rw (none, append-nil) at all
+none_more a b c bytes buffer n none first last = grind (arith, append-nil)
 
 pub returns-in_err-count-clause-next : goal.returns-in_err-count-clause-next
-returns-in_err-count-clause-next g c = λ start read.
-    let turn = c.in_err-count.ensures in
-    let size = length-take c.min-room.result c.args.buffer.now in
-    let asked : HasRoom c.args.bytes.now (length (take c.min-room.result c.args.buffer.now)) =
-    record { some = omega (arith, size); within = omega (arith, size) } in
-    only_error _ _ _ _ c.from_residual.ensures.1 (rw turn.turn.0 (
-      refl,
-      record {
-        bytes = c.args.bytes.now;
-        within = c.requires.bytes;
-        mid = _;
-        read = read;
-        kept = turn.bytes;
-        counted = turn.counted;
-        room = _;
-        asked = asked;
-        last = turn.turn.1;
-      },
-    ))
+returns-in_err-count-clause-next g c = λ start read. grind (arith, length-take, only_error)
 
 pub returns-then-left-count-clause-next : goal.returns-then-left-count-clause-next
 returns-then-left-count-clause-next g c = λ start read.

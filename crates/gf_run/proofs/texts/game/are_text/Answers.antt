@@ -1,4 +1,4 @@
-use Rattle.std.proofs.Common.{◌++◌, ◌≡◌, ◌∙◌, ℕ, List, ap, sym}
+use Rattle.std.proofs.Common.{◌++◌, ◌≡◌, ℕ, List, arith}
 use Rattle.std.proofs.lemmas.Bool.Decides.{Decides-eqb}
 use Rattle.std.proofs.lemmas.List.{append_assoc, append_cancel_left}
 use Rattle.std.proofs.lemmas.Slice.Eq.{strip_prefix_is}
@@ -8,15 +8,13 @@ use Rattle.gf_run.proofs.texts.game.are_text.Goals as goal
 -- what is left begins with a piece
 further : (whole done left piece after : List ℕ) → whole ≡ done ++ left
     → left ≡ piece ++ after → whole ≡ done ++ piece ++ after
-further whole done left piece after begins is =
-    begins ∙ ap (λ (l : List ℕ). done ++ l) is ∙ sym (append_assoc done piece after)
+further whole done left piece after begins is = cc (append_assoc done piece after)
 
 -- what is left of the text does, but of the bytes does not
 differ : (bytes text done rest left piece after : List ℕ) → bytes ≡ done ++ rest
     → text ≡ done ++ left → left ≡ piece ++ after
     → ((more : List ℕ) → rest ≢ piece ++ more) → bytes ≢ text
-differ bytes text done rest left piece after of_bytes of_text is none = λ same.
-    none after (append_cancel_left done rest left (sym of_bytes ∙ same ∙ of_text) ∙ is)
+differ bytes text done rest left piece after of_bytes of_text is none = grind (arith, append_cancel_left)
 
 pub loop-text-preserved : goal.loop-text-preserved
 loop-text-preserved c =

@@ -1,10 +1,10 @@
-use Rattle.std.proofs.Common.{◌∙◌, [], refl}
+use Rattle.std.proofs.Common.{[], refl, rules}
 use Rattle.gf_run.proofs.Going.{closes, goes_on, stops}
 use Rattle.gf_run.proofs.jobs.session.Session.run_duplicates.Goals as goal
 
 pub loop-file-init : goal.loop-file-init
 loop-file-init g c = record {
-  same = (refl, refl, refl, refl, refl);
+  same = search rules;
   unwritten = refl;
   so_far = ([], c.new-groups.ensures, λ status end rest. rest);
 }
@@ -13,11 +13,8 @@ pub loop-file-preserved : goal.loop-file-preserved
 loop-file-preserved g c =
     let now = c.loop-file.invariant in
     let next = c.in-Ok.ensures.next now.so_far.0 now.so_far.1 in record {
-      same =
-          let h = c.hash_next.ensures.same in
-          let k = c.loop-file.invariant.same in
-          (h.0 ∙ k.0, h.1 ∙ k.1, h.2 ∙ k.2, h.3 ∙ k.3, h.4 ∙ k.4);
-      unwritten = c.hash_next.ensures.unwritten ∙ now.unwritten;
+      same = search rules;
+      unwritten = search rules;
       so_far = (
         next.0,
         next.1,
