@@ -197,14 +197,15 @@ def visits_again(sets, actions, times, collide):
 
 def move_beside_chains(actions, sets, count, times, slow=True):
     """A toss over a move with many actions and some sets to which chance may bring play. After each way to choose at
-    some of these stands a chain of sets of one action. The set of the move is the first one or, if it isn't slow,
-    the last."""
+    some of these stands a chain of sets of one action, and after each action of the move another one. The set of the
+    move is the first one or, if it isn't slow, the last."""
     rng, tree = random.Random(SEED), Tree(1)
     tree.toss(1, ["1/2", "1/2"])
 
     def move():
         tree.move(1, 0, actions)
         for _ in range(actions):
+            tree.move(1, -1, 1)
             tree.end()
 
     if slow:
@@ -226,13 +227,13 @@ def move_beside_chains(actions, sets, count, times, slow=True):
             tree.end()
     if not slow:
         move()
-    # Chance can bring play to each set of several actions, whatever is chosen.
-    always = {(1, number) for number in range(sets + 1)}
+    # Chance can bring play to each set of several actions, whatever is chosen, and to that after the move.
+    always = {(1, number) for number in range(-1, sets + 1)}
 
     @cache
     def met(*choices):
         """The sets of one action that are met after these choices at the sets."""
-        made = dict(zip(sorted(always)[1:], choices))
+        made = dict(zip(((1, number) for number in range(1, sets + 1)), choices))
         return always.union(*(chain for chosen, chain in chains if chosen.items() <= made.items()))
 
     labels, owned = [], tree.owned[1][1]
@@ -266,7 +267,7 @@ REDUCED = {
         partial(set_met_late, 800, 4, 20, late=False),
     ),
     "a move beside chains": (
-        partial(move_beside_chains, 1024, 7, 100, 50),
-        partial(move_beside_chains, 1024, 7, 100, 50, slow=False),
+        partial(move_beside_chains, 1024, 7, 100, 90),
+        partial(move_beside_chains, 1024, 7, 100, 90, slow=False),
     ),
 }

@@ -87,7 +87,8 @@ pub use Rattle.gf_form.specs.inner.values.Rows.{paid_at_node}
 pub use Rattle.gf_form.specs.inner.values.Values.{value, chances_at, chance_value, child_value}
 pub use Rattle.gf_form.specs.inner.values.Values.{plus_of, times_of, value_over, trees_of}
 pub use Rattle.gf_form.specs.declared.reduced.labels.Found.{Found}
-pub use Rattle.gf_form.specs.inner.reduced.Rows.{AreGiven, AreTold, HasRow, IsTold}
+pub use Rattle.gf_form.specs.inner.reduced.Rows.{AreFound, AreTold, flag_at, HasRow, is_left_by}
+pub use Rattle.gf_form.specs.inner.reduced.Rows.{IsFound, IsTold, Marked}
 pub use Rattle.gf_form.specs.declared.rows.share.Share.{Share}
 pub use Rattle.gf_form.specs.inner.values.NodeLists.{AreNodesOf, StandFrom, trees_in, tree_at}
 pub use Rattle.gf_form.specs.inner.values.NodeLists.{AreOf}

@@ -1,9 +1,9 @@
 pub mod Coming
 pub mod FirstStrategies
 pub mod LevelsChosen
+pub mod MarkedSets
 pub mod ReducedForms
 pub mod Reducing
-pub mod RowsGiven
 pub mod SearchStarts
 pub mod Searches
 pub mod VisitsFound

@@ -1,14 +1,14 @@
 //! The labels of reduced strategies.
 
-ghost use Rattle.std.specs.Prelude.{◌≡◌, ◌≤◌, ◌<◌, ◌/◌, ◌%◌, ℕ, [], map, IfOk, OnOk, get_or, length};
-ghost use Rattle.std.specs.Prelude.{take};
+ghost use Rattle.std.specs.Prelude.{◌≡◌, ◌≤◌, ◌<◌, ◌*◌, ◌∷◌, ◌/◌, ◌%◌, [], ℕ, false, map};
+ghost use Rattle.std.specs.Prelude.{drop, get_or, IfOk, length, OnOk, take};
 ghost use Rattle.std.specs.List.{AllByRecursion};
 ghost use Rattle.std.specs.List.Sorted.{IsPermutation};
 ghost use Rattle.gf_form.specs.Reduced.{reduced_labels};
 ghost use Rattle.gf_form.specs.inner.reduced.Firsts.{AreFirstsOf};
+ghost use Rattle.gf_form.specs.inner.reduced.Levels.{IsLevel, can_be_met};
 ghost use Rattle.gf_form.specs.inner.reduced.Relevance.{FindRelevance};
-ghost use Rattle.gf_form.specs.inner.reduced.Rows.{AreGiven, AreTold};
-ghost use Rattle.gf_form.specs.inner.reduced.Rows.{HasRow, IsPlain};
+ghost use Rattle.gf_form.specs.inner.reduced.Rows.{AreFound, HasRoom, HasRow, Marked, is_left_by};
 ghost use Rattle.gf_form.specs.inner.reduced.Search.{ChooseInTurn, IsPlayer};
 ghost use Rattle.gf_form.specs.declared.reduced.labels.Found.{Found};
 
@@ -32,15 +32,15 @@ pub(crate) struct Found {
 }
 
 /// Which sets are relevant under each of some strategies. It goes down digit by digit, the slowest
-/// first, with the strategies that choose alike so far. A digit at which no visit demands anything
-/// is left out, so that what is below it is looked at once, whatever is chosen there.
+/// first, with the strategies that choose alike so far. Visits that demand nothing at a digit are
+/// looked at once, whatever is chosen there, if to copy them for each action takes longer.
 #[derive(Drop)]
 pub(crate) struct Relevance {
     alloc: Global,
-    /// For each strategy, the place of its row.
-    pub row_of: Vec<usize>,
-    /// Whether each set is relevant, for strategies under which the same ones are.
-    pub rows: Vec<Vec<bool>>,
+    /// Whether each set was found to be relevant under each strategy, strategy by strategy.
+    pub flags: Vec<bool>,
+    /// How many sets there are.
+    pub sets: usize,
     /// Levels whose room is used again.
     spare: Vec<Level>,
 }
@@ -83,89 +83,139 @@ fn is_next(digits: &[OwnDigit], demands: u64) -> bool {
 }
 
 impl Relevance {
-    /// No rows yet, for this many strategies.
-    fn new(alloc: Global, count: usize) -> Result<Relevance, AllocError>
-        ensures { IfOk result (λ r. length r.row_of.items ≡ count) }
+    /// No set is found yet, for this many strategies and sets.
+    fn new(alloc: Global, count: usize, sets: usize) -> Result<Relevance, AllocError>
+        ensures sets { IfOk result (λ r. r.sets ≡ sets) }
+        ensures room { IfOk result (λ r. length r.flags.items ≡ count * sets) }
+        ensures none { IfOk result (λ r. (k : ℕ) → get_or r.flags.items k false ≡ false) }
     {
-        let mut row_of = Vec::new(alloc);
-        row_of.resize(count, 0)?;
+        let mut flags = Vec::new(alloc);
+        flags.resize(count.saturating_mul(sets), false)?;
         Ok(Relevance {
             alloc,
-            row_of,
-            rows: Vec::new(alloc),
+            flags,
+            sets,
             spare: Vec::new(alloc),
         })
     }
 
     /// Whether each set is relevant under the strategy at this place.
-    #[tactic(auto, using(crate::proofs::lemmas::strategies::CountedActions::given_steps))]
     fn row(&self, place: usize) -> &[bool]
-        requires place { place < length self.now.row_of.items }
-        requires row { get_or self.now.row_of.items place 0 < length self.now.rows.items }
-        ensures { result.now ≡ get_or (map (λ row. row.items) self.now.rows.items)
-            (get_or self.now.row_of.items place 0) [] }
+        requires { HasRoom self.now place }
+        ensures { result.now ≡ take self.now.sets (drop (place * self.now.sets) self.now.flags.items) }
     {
-        &self.rows[self.row_of[place]]
+        let start = place * self.sets;
+        &self.flags[start..start + self.sets]
     }
 
-    /// Gives these strategies the sets that can be met, whatever is chosen at these digits.
-    fn push_row(
+    /// Marks the sets with these flags as relevant under a strategy.
+    fn mark(&mut self, met: &[bool], found: Found)
+        requires counted { length met.now ≡ self.old.sets }
+        requires room { HasRoom self.old found.place }
+        ensures { Marked (λ place f. get_or met.now place false) (found ∷ []) self.old self.new }
+    {
+        let start = found.place * self.sets;
+        for place in 0..met.len() {
+            self.flags[start + place] = self.flags[start + place] | met[place];
+        }
+    }
+
+    /// The same under these strategies.
+    fn mark_each(&mut self, player: &Player<'_, '_>, met: &[bool], strategies: &[Found])
+        requires counted { length met.now ≡ self.old.sets }
+        requires found { AreFound player.now.game.now player.now.number self.old strategies.now }
+        ensures { Marked (λ place f. get_or met.now place false) strategies.now self.old self.new }
+    {
+        for found in strategies {
+            self.mark(met, *found);
+        }
+    }
+
+    /// Marks the sets that can be met, whatever is chosen at the digits that are left.
+    fn mark_all(
         &mut self,
         player: &Player<'_, '_>,
-        digits: &[OwnDigit],
-        numbers: &[u32],
         level: &Level,
         strategies: &[Found],
     ) -> Result<(), AllocError>
-        requires plain { IsPlain digits.now level.now }
-        requires told { AreTold player.now.game.now player.now.number digits.now numbers.now
-            level.now strategies.now }
-        requires room { length self.old.row_of.items ≡ length numbers.now }
-        ensures given { OnOk result (AreGiven player.now.game.now player.now.number numbers.now
-            self.old self.new strategies.now) }
+        requires level { IsLevel self.old.sets level.now }
+        requires found { AreFound player.now.game.now player.now.number self.old strategies.now }
+        ensures { OnOk result (Marked (λ place f. can_be_met place level.now) strategies.now
+            self.old self.new) }
     {
-        let row = self.rows.len();
         let mut met = Vec::new(self.alloc);
         level.mark(&mut met)?;
-        self.rows.push(met)?;
-        for found in strategies {
-            self.row_of[found.place] = row;
-        }
+        self.mark_each(player, &met, strategies);
         Ok(())
     }
 
-    /// Gives these strategies, which made the choices so far, their rows. These digits are left,
-    /// with `count` choices together.
-    #[tactic(auto, using(crate::proofs::lemmas::reduced::RowsGiven::row_steps))]
+    /// Whether to copy as many free visits for each action takes longer than to look at all visits
+    /// once, and to mark the sets once more.
+    fn is_apart(&self, level: &Level, free: usize, digit: OwnDigit, strategies: usize) -> bool {
+        let copies = free.saturating_mul(strategies.min(digit.actions as usize));
+        let marks = strategies.saturating_mul(self.sets);
+        copies > marks.saturating_add(level.visits.len())
+    }
+
+    /// Marks the sets that are met under these strategies, which made the choices so far. These
+    /// digits are left, with `count` choices together.
+    #[cycle(below)]
     fn push_below(
         &mut self,
         player: &Player<'_, '_>,
         digits: &[OwnDigit],
-        numbers: &[u32],
         level: &Level,
         strategies: &[Found],
         count: u32,
     ) -> Result<(), AllocError>
         requires turn { ChooseInTurn player.now.game.now player.now.number digits.now count }
-        requires told { AreTold player.now.game.now player.now.number digits.now numbers.now
-            level.now strategies.now }
-        requires room { length self.old.row_of.items ≡ length numbers.now }
-        ensures given { OnOk result (AreGiven player.now.game.now player.now.number numbers.now
-            self.old self.new strategies.now) }
+        requires level { IsLevel self.old.sets level.now }
+        requires found { AreFound player.now.game.now player.now.number self.old strategies.now }
+        ensures marked { OnOk result (Marked (is_left_by player.now.game.now player.now.number
+            digits.now level.now) strategies.now self.old self.new) }
     {
         let Some((digit, faster)) = digits.split_first() else {
-            return self.push_row(player, digits, numbers, level, strategies);
+            return self.mark_all(player, level, strategies);
         };
+        let free = level.count_free(digit.step);
+        if !self.is_apart(level, free, *digit, strategies.len()) {
+            return self.push_at(player, *digit, faster, level, strategies, count);
+        }
+        self.mark_each(player, &level.known, strategies);
+        let (free, own) = level.visits.split_at(free);
+        let free = Level::of_visits(self.alloc, free, self.sets)?;
+        self.push_at(player, *digit, faster, &free, strategies, count)?;
+        let own = Level::of_visits(self.alloc, own, self.sets)?;
+        self.push_at(player, *digit, faster, &own, strategies, count)
+    }
+
+    /// The same for a slowest digit and faster ones.
+    #[cycle(below)]
+    fn push_at(
+        &mut self,
+        player: &Player<'_, '_>,
+        digit: OwnDigit,
+        faster: &[OwnDigit],
+        level: &Level,
+        strategies: &[Found],
+        count: u32,
+    ) -> Result<(), AllocError>
+        requires turn { ChooseInTurn player.now.game.now player.now.number (digit ∷ faster.now) count }
+        requires level { IsLevel self.old.sets level.now }
+        requires found { AreFound player.now.game.now player.now.number self.old strategies.now }
+        ensures marked { OnOk result (Marked (is_left_by player.now.game.now player.now.number
+            (digit ∷ faster.now) level.now) strategies.now self.old self.new) }
+    {
         let Some(last) = level.visits.last() else {
-            return self.push_row(player, digits, numbers, level, strategies);
+            return self.mark_all(player, level, strategies);
         };
         let each = count / digit.actions;
         if last.demands < digit.step {
             if !is_next(faster, last.demands) {
-                return self.push_below(player, faster, numbers, level, strategies, each);
+                return self.push_below(player, faster, level, strategies, each);
             }
             let ordered = by_choices(self.alloc, strategies, each)?;
-            return self.push_below(player, faster, numbers, level, &ordered, each);
+            return self.push_below(player, faster, level, &ordered, each);
         }
         let mut left = match self.spare.pop() {
             Some(level) => level,
@@ -176,7 +226,7 @@ impl Relevance {
             let before = rest[0].number % count / each;
             let (own, others) = rest.split_at(alike(rest, count, each, before));
             left.choose(level, digit.step, u64::from(before) + 1)?;
-            self.push_below(player, faster, numbers, &left, own, each)?;
+            self.push_below(player, faster, &left, own, each)?;
             rest = others;
         }
         self.spare.push(left)?;
@@ -217,15 +267,8 @@ pub(crate) fn labels_of(
     let sets = player.counts.len();
     let level = Level::of_visits(alloc, visits, sets)?;
     let strategies = listed(alloc, numbers)?;
-    let mut relevance = Relevance::new(alloc, numbers.len())?;
-    relevance.push_below(
-        player,
-        &player.digits,
-        numbers,
-        &level,
-        &strategies,
-        player.whole,
-    )?;
+    let mut relevance = Relevance::new(alloc, numbers.len(), sets)?;
+    relevance.push_below(player, &player.digits, &level, &strategies, player.whole)?;
     write_labels(alloc, player, numbers, &relevance)
 }
 
@@ -238,7 +281,6 @@ fn write_labels(
 ) -> Result<Labels, AllocError>
     requires player { IsPlayer player.now }
     requires firsts { AreFirstsOf player.now.game.now numbers.now player.now.number }
-    requires room { length relevance.now.row_of.items ≡ length numbers.now }
     requires rows { (place : ℕ) → place < length numbers.now → HasRow player.now.game.now
         player.now.number numbers.now relevance.now place }
     ensures { IfOk result

@@ -1,6 +1,6 @@
 //! What is left of a player's visits after choices at the slower digits.
 
-ghost use Rattle.std.specs.Prelude.{◌≡◌, ◌<◌, ◌+◌, ◌*◌, ◌^◌, true, false, [], ℕ, length, get_or};
+ghost use Rattle.std.specs.Prelude.{◌≡◌, ◌≤◌, ◌<◌, ◌+◌, ◌*◌, ◌^◌, true, false, [], ℕ, length, get_or};
 ghost use Rattle.std.specs.Prelude.{IfOk, MatchOption, OnOk};
 ghost use Rattle.std.specs.List.Sorted.{IsNonDecreasingBy};
 ghost use Rattle.gf_form.specs.inner.reduced.Levels.{Adds, AreOrdered, AreParts, AreTaken};
@@ -123,6 +123,14 @@ impl Level {
         level.known.resize(sets, false)?;
         put_in_order(&mut level.visits);
         Ok(level)
+    }
+
+    /// How many visits demand nothing at the slowest digit, which has this step.
+    pub(crate) fn count_free(&self, step: u64) -> usize
+        requires { IsNonDecreasingBy (λ (v : Visit). v.demands) self.now.visits.items }
+        ensures { result ≤ length self.now.visits.items }
+    {
+        count_below(&self.visits, step)
     }
 
     /// Adds a visit, if it is to a set of the level that is not known to be met.

@@ -46,7 +46,7 @@ pub ruleset add_steps = (flag_on, meets_none, or-false, ne_eqb, get_or_default, 
 
 -- ---- what is left of visits if an action is chosen
 
-any_in_two : (p : Visit → Bool) (visits : List Visit) (n : ℕ)
+pub any_in_two : (p : Visit → Bool) (visits : List Visit) (n : ℕ)
     → list_any p visits ≡ (list_any p (take n visits) || list_any p (drop n visits))
 any_in_two p visits n = ap (list_any p) (sym (take-append-drop n visits)) ∙ list_any-append p _ _
 

@@ -15,7 +15,7 @@ use Rattle.gf_form.specs.declared.reduced.first.Player.{Player}
 use Rattle.gf_form.proofs.lemmas.rows.Digits.{width_positive, steps_long, next_is}
 use Rattle.gf_form.proofs.lemmas.reduced.LevelsChosen.{no_visit}
 use Rattle.gf_form.proofs.lemmas.reduced.Searches.{place_inside}
-use Rattle.gf_form.proofs.lemmas.reduced.RowsGiven.{no_found}
+use Rattle.gf_form.proofs.lemmas.reduced.MarkedSets.{no_found}
 use Rattle.gf_form.proofs.lemmas.rows.GameDigits.{choice_at_number, product_picked, width_fits}
 use Rattle.gf_form.proofs.lemmas.rows.GameDigits.{picked_at}
 use Rattle.gf_form.proofs.lemmas.strategies.Chosen.{length-all_choices, choice_length}

@@ -1,16 +1,21 @@
--- Which sets are relevant under each of the strategies that were found, in rows that some share.
-use Rattle.std.specs.Prelude.{◌≡◌, ◌<◌, ℕ, List, [], get_or, length, map}
-use Rattle.std.specs.List.{AllByRecursion}
+-- Which sets are relevant under each of the strategies that were found, and which of them are marked.
+use Rattle.std.specs.Prelude.{◌≡◌, ◌≤◌, ◌<◌, ◌+◌, ◌*◌, ◌==◌, ◌&&◌, ◌||◌, ℕ, Bool, List, false}
+use Rattle.std.specs.Prelude.{get_or, length}
+use Rattle.std.specs.List.{AllByRecursion, list_any}
 use Rattle.gf_tree.specs.KeysInOrder.{player_keys}
 use Rattle.gf_tree.specs.Game.{Game}
 use Rattle.gf_form.specs.Strategies.{strategies}
-use Rattle.gf_form.specs.inner.reduced.Levels.{IsLevel, can_be_met, is_left}
-use Rattle.gf_form.specs.inner.reduced.Search.{choices_at, is_relevant_at, numbered, steps_to}
-use Rattle.gf_form.specs.inner.reduced.Shown.{relevant_sets}
+use Rattle.gf_form.specs.inner.reduced.Levels.{IsLevel, is_left}
+use Rattle.gf_form.specs.inner.reduced.Search.{choices_at, is_relevant_at, steps_to}
 use Rattle.gf_form.specs.declared.reduced.digits.OwnDigit.{OwnDigit}
 use Rattle.gf_form.specs.declared.reduced.labels.Found.{Found}
 use Rattle.gf_form.specs.declared.reduced.labels.Relevance.{Relevance}
 use Rattle.gf_form.specs.declared.reduced.level.Level.{Level}
+
+-- the set at a place is left in the level by a strategy's choices at these digits
+abbrev pub is_left_by : Game → ℕ → List OwnDigit → Level → ℕ → Found → Bool
+is_left_by g player digits level place found =
+    is_left place (steps_to digits) (choices_at g player digits found.number) level
 
 -- the level tells which sets are relevant under a strategy, by its choices at these digits
 pub record IsTold (g : Game) (player : ℕ) (digits : List OwnDigit) (numbers : List ℕ)
@@ -20,8 +25,7 @@ pub record IsTold (g : Game) (player : ℕ) (digits : List OwnDigit) (numbers : 
     pub number : get_or numbers found.place 0 ≡ found.number
     pub within : found.number < length (strategies g player)
     pub tells : (place : ℕ) → place < length (player_keys g player)
-        → is_relevant_at g player found.number place
-        ≡ is_left place (steps_to digits) (choices_at g player digits found.number) level
+        → is_relevant_at g player found.number place ≡ is_left_by g player digits level place found
 
 -- under each of these
 pub record AreTold (g : Game) (player : ℕ) (digits : List OwnDigit) (numbers : List ℕ)
@@ -30,23 +34,35 @@ pub record AreTold (g : Game) (player : ℕ) (digits : List OwnDigit) (numbers :
     pub levelled : IsLevel (length (player_keys g player)) level
     pub each : AllByRecursion (IsTold g player digits numbers level) strategies
 
--- sets are relevant exactly if they can be met, whatever is chosen at these digits
-abbrev pub IsPlain : List OwnDigit → Level → Type 0
-IsPlain digits level = (place : ℕ) (choices : List ℕ)
-    → is_left place (steps_to digits) choices level ≡ can_be_met place level
+-- there is a flag for each set under the strategy at a place
+abbrev pub HasRoom : Relevance → ℕ → Type 0
+HasRoom r place = place * r.sets + r.sets ≤ length r.flags.items
 
--- the row of the strategy at a place tells which sets are relevant under it
-pub record HasRow (g : Game) (player : ℕ) (numbers : List ℕ) (r : Relevance) (place : ℕ) : Type 0
-  where
-    pub within : get_or r.row_of.items place 0 < length r.rows.items
-    pub is : get_or (map (λ row. row.items) r.rows.items) (get_or r.row_of.items place 0) []
-        ≡ relevant_sets g player (numbered g player (get_or numbers place 0))
+-- this is a strategy of the player, and there are flags for it
+pub record IsFound (g : Game) (player : ℕ) (r : Relevance) (found : Found) : Type 0 where
+  pub within : found.number < length (strategies g player)
+  pub room : HasRoom r found.place
 
--- these strategies have rows in addition
-pub record AreGiven (g : Game) (player : ℕ) (numbers : List ℕ) (before after : Relevance)
-    (strategies : List Found) : Type 0
+-- so are these
+pub record AreFound (g : Game) (player : ℕ) (r : Relevance) (found : List Found) : Type 0 where
+  pub each : AllByRecursion (IsFound g player r) found
+
+-- whether the set at the second place is marked under the strategy at the first one
+abbrev pub flag_at : Relevance → ℕ → ℕ → Bool
+flag_at r at place = get_or r.flags.items (at * r.sets + place) false
+
+-- sets that pass the test under some of these strategies are marked there in addition
+pub record Marked (test : ℕ → Found → Bool) (found : List Found) (before after : Relevance) : Type 0
   where
-    pub room : length after.row_of.items ≡ length before.row_of.items
-    pub kept : (place : ℕ) → HasRow g player numbers before place
-        → HasRow g player numbers after place
-    pub given : AllByRecursion (λ found. HasRow g player numbers after found.place) strategies
+    pub sets : after.sets ≡ before.sets
+    pub room : length after.flags.items ≡ length before.flags.items
+    pub flags : (at place : ℕ) → place < before.sets → flag_at after at place
+        ≡ (flag_at before at place || list_any (λ f. f.place == at && test place f) found)
+
+-- the flags of the strategy at a place tell which sets are relevant under it
+pub record HasRow (g : Game) (player : ℕ) (numbers : List ℕ) (r : Relevance) (at : ℕ) : Type 0
+  where
+    pub counted : r.sets ≡ length (player_keys g player)
+    pub room : HasRoom r at
+    pub is : (place : ℕ) → place < r.sets
+        → flag_at r at place ≡ is_relevant_at g player (get_or numbers at 0) place

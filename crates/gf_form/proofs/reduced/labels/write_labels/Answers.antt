@@ -1,7 +1,7 @@
 use Rattle.gf_form.proofs.Common.{all_choices, map-append, take_more, numbered, take_all, get_or}
 use Rattle.gf_form.proofs.Common.{length, arith, List, sym, ◌∙◌, ◌≡◌, [], ap, ℕ}
-use Rattle.gf_form.proofs.lemmas.reduced.RowsGiven.{label_written, labels_written, number_within}
-use Rattle.gf_form.proofs.lemmas.reduced.RowsGiven.{row_fits}
+use Rattle.gf_form.proofs.lemmas.reduced.MarkedSets.{label_written, labels_written, number_within}
+use Rattle.gf_form.proofs.lemmas.reduced.MarkedSets.{row_fits}
 use Rattle.gf_form.proofs.reduced.labels.write_labels.Goals.{After-deref}
 use Rattle.gf_form.proofs.reduced.labels.write_labels.Goals as goal
 
