@@ -141,7 +141,7 @@ def tell(failure: Exception) -> int:
     return status
 
 
-def title(name: str) -> str:
+def called(name: str) -> str:
     """What one file is called where a failure is explained."""
     return "<stdin>" if name == "-" else name
 
@@ -169,7 +169,7 @@ def answered(file: str, name: str, explains: bool, answer: Callable[[bytes], Tol
 
 def run_one(options: argparse.Namespace, answer: Callable[[bytes], bytes]) -> int:
     """Writes the answer to one file."""
-    write(answered(options.file, title(options.file), options.explain, answer))
+    write(answered(options.file, called(options.file), options.explain, answer))
     return 0
 
 
@@ -232,7 +232,7 @@ def run_check(options: argparse.Namespace) -> int:
         return run_each(
             files, lambda name: f"{name}: {answered(name, name, options.explain, check)}\n"
         )
-    write(f"{answered(files[0], title(files[0]), options.explain, check)}\n".encode())
+    write(f"{answered(files[0], called(files[0]), options.explain, check)}\n".encode())
     return 0
 
 
@@ -252,7 +252,7 @@ def comparison(first: bytes, second: bytes, options: argparse.Namespace) -> Tupl
 def run_same(options: argparse.Namespace) -> int:
     def about_one(letter: str, name: str) -> ContextManager[None]:
         """Says which file a failure is about: by its letter, or in words."""
-        return explained(True, (title(name), b"")) if options.explain else about(letter)
+        return explained(True, (called(name), b"")) if options.explain else about(letter)
 
     with about_one("A", options.a):
         first = opened(options.a)
@@ -262,7 +262,7 @@ def run_same(options: argparse.Namespace) -> int:
         a = read(first)
     with about_one("B", options.b):
         b = read(second)
-    with explained(options.explain, (title(options.a), a), (title(options.b), b)):
+    with explained(options.explain, (called(options.a), a), (called(options.b), b)):
         answer, status = comparison(a, b, options)
     write(answer.encode())
     return status
