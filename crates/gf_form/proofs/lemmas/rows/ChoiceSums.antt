@@ -75,9 +75,7 @@ module _ (faster : List ℕ) (es : List Term) (least done : ℕ) (old now new : 
   own = map (raised ((done + 1) * step)) more.sums
 
   are_own : AllByRecursion (IsOwn step (done + 1)) own
-  are_own = all_images (IsOwn step (done + 1)) (raised ((done + 1) * step)) more.sums
-      (all_weaker (IsFree step) (λ e. IsOwn step (done + 1) (raised ((done + 1) * step) e))
-      (λ e h. (omega arith, omega (arith, h))) more.sums more.within)
+  are_own = grind (arith, all_images, all_weaker)
 
   first_le : 1 * step ≤ (done + 1) * step
   first_le = mul-le-mul_right step (omega arith)
@@ -108,15 +106,12 @@ module _ (faster : List ℕ) (es : List Term) (least done : ℕ) (old now new : 
         let steps = steps_of faster in
         let parts = all_parts (IsExactAt den (step ∷ steps) (c ∷ choices)) before.sums own exact in
         let none = come_none den (step ∷ steps) (c ∷ choices) [] [] (IsOther step c)
-        (other_unmet step c steps choices) before.sums (all_weaker
-        (IsBetween step ((done + 1) * step)) (IsOther step c) (λ e h. (h.0, inl h.1)) before.sums
-        before.within) in
+        (other_unmet step c steps choices) before.sums (grind (arith, all_weaker)) in
         let low : ComeTo den steps choices more.sums (step ∷ steps) (c ∷ choices) own =
         come_moved den steps choices (step ∷ steps) (c ∷ choices) (IsFree step)
         (λ e. e.head.demands + c * step) (raised_met step c steps choices (omega arith)) more.sums
         more.within parts.1 in
         let one = more.add_up den choices valid low.exact in
-        let other = merged den steps choices one.exact in
         grind (arith, sum_append, ints)
 
   adds_up : AddUpTo ((done + 1) ∷ faster) es (before.sums ++ own)
@@ -132,18 +127,8 @@ module _ (faster : List ℕ) (es : List Term) (least done : ℕ) (old now new : 
   pub more_summing : Summing faster es least (done + 1) old new
   more_summing = record {
     sums = before.sums ++ own;
-    is = cc (
-      more.is,
-      before.is,
-      raised_twice least ((done + 1) * step) more.sums,
-      map-append (raised least) before.sums own,
-      append_assoc old (map (raised least) before.sums) (map (raised least) own),
-    );
-    within = all_both (IsBetween step ((done + 1 + 1) * step)) before.sums own
-        (all_weaker (IsBetween step ((done + 1) * step)) (IsBetween step ((done + 1 + 1) * step))
-        (λ e h. (h.0, omega (arith, h.1))) before.sums before.within)
-        (all_weaker (IsOwn step (done + 1)) (IsBetween step ((done + 1 + 1) * step))
-        (λ e h. (omega (arith, h.0, first_le), omega (arith, h.1))) own are_own);
+    is = grind (arith, raised_twice, map-append, append_assoc);
+    within = grind (arith, all_both, all_weaker, first_le, are_own);
     add_up = adds_up;
   }
 
@@ -159,9 +144,8 @@ IsMet actions e = (choices : List ℕ) → meets (steps_of actions) choices e.he
 
 pub last_met : (digits : List Digit) (es : List Term) → length digits ≡ 0
     → AllByRecursion (IsMet (actions_at digits)) es
-last_met [] [] none = tt
 last_met [] (e ∷ es) none = ((λ choices. refl), last_met [] es none)
-last_met (d ∷ digits) es none = absurd (omega (arith, none))
+last_met digits es none = grind arith
 
 pub none_demanded : {T E : Type 0} (result : Result T E) (digits : List Digit) (least : ℕ)
     (from old new : Terms) → AllByRecursion (IsMet (actions_at digits)) (all_terms from)
@@ -178,9 +162,7 @@ none_demanded (Ok done) digits least from old new met is order ends =
         sums = map low es;
         is = is ∙ (λ i. all_terms old ++ map (with_demands (none i)) es)
             ∙ (λ i. all_terms old ++ sym (map_twice (raised least) low es) i);
-        within = all_images (IsFree (product (spans actions))) low es
-            (all_weaker (IsMet actions) (λ e. IsFree (product (spans actions)) (low e))
-            (λ e h. spans_above actions) es met);
+        within = grind (arith, all_images, all_weaker, spans_above);
         add_up = λ den choices valid exact.
             come_moved den (steps_of actions) choices (steps_of actions) choices (IsMet actions)
             (λ e. 0) (λ e h. h choices ∙ sym (zero_met actions choices)) es met exact;
@@ -222,10 +204,7 @@ front_adds_up n faster es front rest sums parts_are are_free h den (c ∷ choice
     come_moved den (step ∷ steps) (c ∷ choices) steps choices (IsFree step)
     (λ e. e.head.demands - 0) met front are_free (rw (none_lowered front) one.exact) in
     rw parts_are (come_to_both den (step ∷ steps) (c ∷ choices) (step ∷ steps) (c ∷ choices) front
-    sums rest rest (record {
-      exact = first.exact;
-      sums = λ k. cc (first.sums k, one.sums k, low.sums k, none_lowered front, h.is);
-    }) (record { exact = parts.1; sums = λ k. refl }))
+    sums rest rest (grind (arith, none_lowered)) (record { exact = parts.1; sums = λ k. refl }))
 
 pub summed_sums : (t : Terms) (n step : ℕ) (faster : List ℕ) (free all : ℕ)
     (none first old sums new : List Term) → step ≡ product (spans faster)

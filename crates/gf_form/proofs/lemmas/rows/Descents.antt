@@ -8,15 +8,14 @@ use Common.{open_stops, open_turns, option_map, ArePlaced, all_parts, demanding,
 use Common.{root_node, Entering, choosing, comes_by, demanded, eqb-true, steps_by, steps_of, Option}
 use Common.{trees_of, descent, flatten, game_of, list_of, step_at, stop_at, tree_of, SetKey, branch}
 use Common.{eq-eqb, get_or, length, set_at, Trees, arith, below, count, false, meets, stops, turns}
-use Common.{Bool, Game, List, Node, None, Some, Stop, Tree, kept, more, none, refl, true, ◌&&◌, map}
-use Common.{◌++◌, ◌==◌, ◌||◌, not, set, suc, sym, ◌%◌, ◌*◌, ◌+◌, ◌^◌, ◌∙◌, ◌∷◌, ◌≡◌, ◌≤◌, [], ap}
+use Common.{Bool, Game, List, Node, None, Some, Stop, Tree, kept, more, none, refl, true, ◌&&◌}
+use Common.{◌++◌, ◌==◌, set, suc, sym, ◌%◌, ◌*◌, ◌+◌, ◌^◌, ◌∙◌, ◌∷◌, ◌≡◌, ◌≤◌, [], ap}
 use Rattle.gf_form.proofs.lemmas.values.Walks.{trees_of_list, choice_there, choice_is}
 use Rattle.gf_form.proofs.lemmas.strategies.Chosen.{keys_distinct}
 use Rattle.gf_tree.specs.declared.game.branch.Branch.{Branch}
 use Rattle.gf_tree.specs.declared.game.branches.Branches.{Branches}
 use Rattle.gf_form.specs.declared.rows.descent.Open.{Open}
 use Rattle.gf_form.specs.declared.rows.descent.Steps.{Steps}
-use Rattle.gf_form.specs.declared.rows.descent.Steps.TheVariants.{All, Own}
 use Rattle.std.proofs.Math.Nat.{div-zero}
 use Rattle.gf_form.proofs.lemmas.rows.Digits.{within_length, pack_below, set_within, AreWithin, met}
 use Rattle.gf_form.proofs.lemmas.rows.Digits.{met_digit, digit_is, meets_is, set_pack, met_set}
@@ -55,12 +54,8 @@ first_entered h steps g g' n key s m step action k ts ts' e f i here own =
 pub step_there : (steps : Steps) (g : Game) (player position : ℕ) (key : SetKey) → IsGame g
     → key.player ≡ player → at_position (player_keys g player) position ≡ Some key
     → steps_by g steps key ≡ step_at steps player position
-step_there (All steps) g player position key game his at =
-    choice_is g (map (λ own. own.items) steps.now) player position key game his at
-step_there (Own own steps) g player position key game his at =
-    let distinct = keys_distinct g game player in
-    let there = choice_there (player_keys g player) steps.now position key distinct at in
-    grind (arith, his, eq-eqb)
+step_there steps g player position key game his at =
+    grind (arith, choice_is, keys_distinct, choice_there, eq-eqb)
 
 -- ---- what is open
 
@@ -83,9 +78,7 @@ entered {S} h steps b s key step action rest at here own game trees given =
     let g = game_of b in
     move_told g (demanding h g (steps_by g steps)) s (tree_of b) key at
     ∙ ap (λ (vs : List (Stop S)). stop_at g (root_node (tree_of b)) s ∷ vs)
-    (first_entered h (λ g. steps_by g steps) g (game_of_branches rest) (root_node (tree_of b)) key s
-    (length (child_trees (tree_of b))) step action (branches_given rest) (child_trees (tree_of b))
-    (branches_left rest) game trees given here own)
+    (grind (arith, first_entered))
 
 pub turns_last : {S : Type 0} (os : List (Open S)) (o : Open S)
     → turns (os ++ o ∷ []) ≡ turns os + open_turns o
@@ -146,23 +139,8 @@ module _ {g : Game} {owns : SetKey → Bool} {steps choose : SetKey → ℕ} {ac
   leads_on : (ds : List ℕ) (key : SetKey) (m k : ℕ) → AreWithin actions ds
       → option_map (λ set. length set.actions) (set_at g key) ≡ Some m → 1 ≤ k → k ≤ m
       → LeadsAt ds (steps key) m k (comes_by owns choose key k)
-  leads_on ds key m k within at from upto = by (owns key) refl (steps key == 0) refl
-    where
-      there : (set : InformationSet) × (set_at g key ≡ Some set) × (length set.actions ≡ m)
-      there = set_there g key m at
-
-      by : (own : Bool) → owns key ≡ own → (alone : Bool) → (steps key == 0) ≡ alone
-          → LeadsAt ds (steps key) m k (not own || choose key == k)
-      by false his alone e = without_digit ds _ _ k true within (digits.other key his) refl
-      by true his true e =
-          let no_step = eqb-true (steps key) 0 e in
-          let one = digits.alone key there.0 there.1 his no_step in
-          let choice = digits.chosen key there.0 there.1 his in
-          let many = there.2 in
-          without_digit ds _ _ k (choose key == k) within no_step (grind (arith, eq-eqb))
-      by true his false e = at_digit ds _ _ k (choose key) within from upto
-          (rw there.2 at
-          (digits.several key there.0 there.1 his (eqb-false (steps key) 0 e)))
+  leads_on ds key m k within at from upto =
+      grind (arith, set_there, without_digit, eqb-true, eq-eqb, at_digit, eqb-false)
 
   module _ {S : Type 0} (h : Handing S) (free : S → S) (laws : AreFreed g h free) where
     abbrev keep : List (Stop S) → List (Stop S)
@@ -201,9 +179,7 @@ module _ {g : Game} {owns : SetKey → Bool} {steps choose : SetKey → ℕ} {ac
         let d = (h.demands s + k * step) % 2 ^ 64 in
         let small = pack_below actions led.next led.within in
         let are = led.are (eqb-true action 0 e) in
-        let fits : d ≡ pack actions led.next =
-        ap (λ n. n % 2 ^ 64) (ap (λ n. n + k * step) has.0 ∙ sym are)
-        ∙ mod-eq_of_lt (omega (arith, small, digits.within)) in
+        let fits : d ≡ pack actions led.next = grind (arith, mod-eq_of_lt) in
         let own = tree (h.below g n s k d) led.next
         (laws.demands_are n s k d ∙ fits, led.within) in
         grind (arith, laws.below_freed, led.leads)
@@ -220,9 +196,7 @@ module _ {g : Game} {owns : SetKey → Bool} {steps choose : SetKey → ℕ} {ac
         → Keeps ds (below key) (beneath key))
         → Keeps ds (stop_at g n s ∷ option_map_or below o [])
         (stop_at g n (free s) ∷ option_map_or beneath o [])
-    node_kept n ts s ds o below beneath has children each =
-        let whole = meets_is actions choices ds digits.one_each has.1 in
-        grind arith
+    node_kept n ts s ds o below beneath has children each = grind (arith, meets_is)
 
     mutual
       pub tree_kept : (t : Tree Node) → AllByRecursion (HasChildren g) (flatten t) → KeepsTree t

@@ -3,14 +3,13 @@
 -- set by set, from the fastest on.
 use Rattle.gf_form.proofs.Common
 use Common.{get_or_append_left, get_or-append-add, mul-le-mul_right, InformationSet, length-append}
-use Common.{div-mul_cancel, append_assoc, mod-eq_of_lt, AllZip-long, AreDigitsOf, ArePositive, inl}
+use Common.{div-mul_cancel, append_assoc, mod-eq_of_lt, AllZip-long, AreDigitsOf, ArePositive}
 use Common.{div-mul-add, steps_after, append-nil, map-append, strides_of, AreDigits, AreMadeOf, []}
-use Common.{ArePlaced, and_parts, drop-cons, mul_above, mul_assoc, cases_lt, demanded, dvd_refl, ℕ}
-use Common.{in_order, mul_comm, steps_of, add-one, product, AllZip, SetKey, eq-eqb, get_or, length}
-use Common.{lt-ltb, ne_eqb, picked, set_at, Digit, arith, false, meets, spans, width, Bool, Game}
-use Common.{List, Some, drop, refl, true, zero, ◌&&◌, ◌++◌, ◌==◌, ◌||◌, inr, map, set, suc, sym}
+use Common.{ArePlaced, and_parts, drop-cons, mul_above, mul_assoc, demanded, dvd_refl, ℕ}
+use Common.{in_order, mul_comm, steps_of, add-one, product, AllZip, SetKey, get_or, length}
+use Common.{picked, set_at, Digit, arith, false, meets, spans, width, Bool, Game}
+use Common.{List, Some, drop, refl, true, zero, ◌&&◌, ◌++◌, ◌==◌, ◌||◌, map, set, suc, sym, rules}
 use Common.{◌%◌, ◌*◌, ◌+◌, ◌-◌, ◌/◌, ◌<◌, ◌^◌, ◌∙◌, ◌∣◌, ◌∷◌, ◌≡◌, ◌≤◌, ap}
-use Rattle.std.proofs.lemmas.Bool.{le-leb, le-ltb, lt-leb}
 use Rattle.std.proofs.Math.Nat.{add-mul-mod_self_right, dvd-mul_left_of_dvd, mul-add-div}
 pub use Rattle.gf_form.specs.inner.rows.Demands.{pack}
 
@@ -63,12 +62,10 @@ step_divides actions place h = absurd (omega arith)
 pub digit_is : (actions ds : List ℕ) (place : ℕ) → AreWithin actions ds → place < length actions
     → demanded (pack actions ds) (get_or (steps_of actions) place 0) (get_or actions place 0)
     ≡ get_or ds place 0
-digit_is (n ∷ faster) (d ∷ ds) zero h within =
-    grind (arith, pack, pack_below, div-mul-add, mod-eq_of_lt)
 digit_is (n ∷ faster) (d ∷ ds) (suc place) h within =
     let there : place < length faster = omega (arith, within) in
     grind (arith, faster_part, step_above, step_divides, digit_is faster ds place h.1 there)
-digit_is actions ds place h within = grind arith
+digit_is actions ds place h within = grind (arith, pack_below, div-mul-add, mod-eq_of_lt)
 
 -- ---- another digit
 
@@ -92,20 +89,7 @@ met _ _ = true
 
 meets_first : (p r c d : ℕ) (steps cs : List ℕ) → r < p
     → meets (p ∷ steps) (c ∷ cs) (d * p + r) ≡ ((d == 0 || d == c) && meets steps cs r)
-meets_first p r c zero steps cs h = grind arith
-meets_first p r c (suc d) steps cs h = elim (cases_lt c (suc d)) [
-  | inl less ↦
-      let le : c ≤ d = omega (arith, less) in
-      let small = mul-le-mul_right p le in
-      grind (arith, le-ltb, lt-ltb, le-leb, ne_eqb)
-  | inr le ↦ elim (cases_lt (suc d) c) [
-    | inl less ↦
-        let up : suc (suc d) ≤ c = omega (arith, less) in
-        let large = mul-le-mul_right p up in
-        grind (arith, le-ltb, lt-leb, ne_eqb)
-    | inr ge ↦ grind (arith, le-ltb, le-leb, lt-ltb, eq-eqb)
-  ]
-]
+meets_first p r c d steps cs h = search (rules, mul-le-mul_right)
 
 pub meets_is : (actions choices ds : List ℕ) → length choices ≡ length actions
     → AreWithin actions ds → meets (steps_of actions) choices (pack actions ds) ≡ met choices ds
@@ -192,8 +176,7 @@ own_digit : (counts xs : List ℕ) (j : ℕ) → length xs ≡ length counts →
     → ArePlaced (steps_of (picked counts counts)) (picked counts counts) (picked counts xs)
     (get_or (steps_after 1 counts) j 0) (get_or counts j 0) (get_or xs j 0)
 own_digit (n ∷ counts) (x ∷ xs) (suc j) same less some =
-    let later = own_digit counts xs j (omega (arith, same)) (omega (arith, less)) in
-    grind (arith, behind, later)
+    grind (arith, behind, own_digit counts xs j (omega (arith, same)) (omega (arith, less)))
 own_digit counts xs j same less some = grind arith
 
 own_alone : (counts : List ℕ) (j : ℕ) → get_or (steps_after 1 counts) j 0 ≡ 0
@@ -228,10 +211,7 @@ are_digits g owns steps choose counts xs within same other chosen placed = recor
 
 pub as_long : (xs ys : List (List ℕ)) → map length xs ≡ map length ys
     → length (in_order xs) ≡ length (in_order ys)
-as_long (x ∷ xs) (y ∷ ys) same =
-    let own : length x ≡ length y = cc in
-    let others = as_long xs ys (cc) in
-    omega (arith, length-append (in_order xs) x, length-append (in_order ys) y)
+as_long (x ∷ xs) (y ∷ ys) same = grind (arith, length-append, as_long xs ys (cc))
 as_long [] [] same = refl
 as_long xs ys same = grind arith
 
@@ -241,14 +221,7 @@ pub among_all : (all counts xs : List (List ℕ)) (i step count choice : ℕ)
     → ArePlaced (get_or all i []) (get_or counts i []) (get_or xs i []) step count choice
     → ArePlaced (in_order all) (in_order counts) (in_order xs) step count choice
 among_all (s ∷ all) (n ∷ counts) (x ∷ xs) zero step count choice one other h =
-    let before = as_long all counts (cc) in
-    let chosen = as_long xs counts (cc) in record {
-      place = length (in_order counts) + h.place;
-      within = omega (arith, length-append (in_order counts) n, h.within);
-      step_is = grind (arith, before, get_or-append-add, h.step_is);
-      count_is = grind (arith, get_or-append-add, h.count_is);
-      choice_is = grind (arith, chosen, get_or-append-add, h.choice_is);
-    }
+    grind (arith, as_long, length-append, get_or-append-add)
 among_all (s ∷ all) (n ∷ counts) (x ∷ xs) (suc i) step count choice one other h =
     let before = as_long all counts (cc) in
     let chosen = as_long xs counts (cc) in
@@ -295,27 +268,21 @@ width_rises n later = grind (arith, mul-le-mul_right)
 -- those of the sets from a place on have no more values than all
 pub width_left : (i : ℕ) (counts later : List ℕ)
     → width (drop i counts ++ later) ≤ width (counts ++ later)
-width_left zero counts later = omega arith
-width_left (suc i) [] later = omega arith
 width_left (suc i) (n ∷ counts) later =
     omega (arith, width_left i counts later, width_rises n (counts ++ later))
+width_left i counts later = grind arith
 
 product_left : (i : ℕ) (counts later : List ℕ) → ArePositive (counts ++ later)
     → product (drop i counts ++ later) ≤ product (counts ++ later)
-product_left zero counts later some = omega arith
-product_left (suc i) [] later some = omega arith
 product_left (suc i) (n ∷ counts) later some =
-    let p = product (counts ++ later) in
-    let one : 1 * p ≤ n * p = mul-le-mul_right p some.0 in
-    omega (arith, product_left i counts later some.1, one)
+    search (rules, mul-le-mul_right, product_left i counts later some.1)
+product_left i counts later some = grind arith
 
 -- the set before a place goes before those that come later
 pub cut : (actions later : List ℕ) (place : ℕ) → 0 < place → place ≤ length actions
     → drop (place - 1) actions ++ later
     ≡ get_or actions (place - 1) 0 ∷ (drop place actions ++ later)
-cut actions later place some within =
-    let at : suc (place - 1) ≡ place = omega arith in
-    cc (drop-cons actions (place - 1) 0 (omega arith), at)
+cut actions later place some within = grind (arith, drop-cons)
 
 -- one stride more, that of the set before a place
 pub stride_more : (actions later strides : List ℕ) (place choices : ℕ) → 0 < place
@@ -341,9 +308,7 @@ pub player_made : (made : List ℕ → List ℕ) → ((counts : List ℕ)
     → own ++ made (in_order counts) ≡ made (count ++ in_order counts)
     → AreMadeOf made counts all → AreMadeOf made (counts ++ count ∷ []) next
 player_made made long counts count own all next is more before =
-    let same : length own ≡ length count =
-    grind (arith, long (in_order counts), long (count ++ in_order counts), length-append) in
-    grind (arith, in_order_more, map-append)
+    grind (arith, length-append, in_order_more, map-append)
 
 -- ---- what the steps of the code need
 

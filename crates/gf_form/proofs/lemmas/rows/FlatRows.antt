@@ -8,9 +8,9 @@ use Common.{get_or_push, length-drop, take-length, get_or-take, length-take, app
 use Common.{AreOrdered, ComeAsWell, all_terms, number_at, to_z-of_z, AreChosen, AreMerged, IsFactor}
 use Common.{EndsBelow, drop-cons, drop-drop, IsShaped, IsWithin, cases_lt, div_self, dvd_refl, Head}
 use Common.{take-suc, AreAlike, IsNoted, IsScale, IsSumAt, IsSumOf, no_term, term_at, zero-*ℤ, List}
-use Common.{add-one, lowered, Scaled, get_or, length, Chosen, HasSum, Scale, Terms, arith, false}
-use Common.{subst, Term, of_z, refl, take, to_z, true, w128, zero, ◌*ℤ◌, ◌++◌, ◌+ℤ◌, drop, part, []}
-use Common.{inl, inr, map, pos, suc, sym, ◌*◌, ◌+◌, ◌<◌, ◌∙◌, ◌∷◌, ◌≡◌, ◌≤◌, ◌⊎◌, ◌-◌, ap}
+use Common.{add-one, lowered, Scaled, get_or, length, Chosen, HasSum, Scale, Terms, arith, rules}
+use Common.{subst, Term, of_z, refl, take, to_z, w128, zero, ◌*ℤ◌, ◌++◌, ◌+ℤ◌, drop, part, []}
+use Common.{map, pos, suc, sym, ◌*◌, ◌+◌, ◌<◌, ◌∙◌, ◌∷◌, ◌≡◌, ◌≤◌, ◌-◌, ap}
 use Rattle.std.proofs.lemmas.List.{append_assoc, get_or-drop, take_rest, take_more}
 use Rattle.gf_form.specs.inner.rows.ItemRows.{HasRow}
 use Rattle.std.proofs.lemmas.List.Sorted.{IsNonDecreasingBy-short}
@@ -27,17 +27,8 @@ no_item IsAt old = grind (arith, append-nil)
 pub one_item : {A : Type 0} (Was IsAt : ℕ → A → Type 0) (place : ℕ) (old new after : List A) (x : A)
     → after ≡ new ++ x ∷ [] → ((k : ℕ) (y : A) → Was k y → IsAt k y) → IsAt place x
     → HasRow Was place old new → HasRow IsAt (place + 1) old after
-one_item Was IsAt place old new after x is weaker here before = record {
-  row = before.row ++ x ∷ [];
-  is = grind (arith, append_assoc);
-  one_each = grind (arith, length-append);
-  each = λ k d less. by k d less (cases_lt k place);
-}
-  where
-    by : (k : ℕ) (d : _) → k < place + 1 → (k < place) ⊎ (place ≤ k)
-        → IsAt k (get_or (before.row ++ x ∷ []) k d)
-    by k d less (inl h) = grind (arith, get_or_append_left)
-    by k d less (inr h) = grind (arith, get_or-append_seam)
+one_item Was IsAt place old new after x is weaker here before =
+    grind (arith, append_assoc, length-append, cases_lt, get_or_append_left, get_or-append_seam)
 
 pub all_by_place : {A : Type 0} (P : A → Type 0) (xs : List A)
     → ((k : ℕ) (d : A) → k < length xs → P (get_or xs k d)) → AllByRecursion P xs
@@ -48,10 +39,6 @@ all_by_place P (x ∷ xs) each =
 -- a number within bounds is kept by its type
 pub in_bits : (z : ℤ) → IsWithin z → to_z w128 (of_z w128 z) ≡ z
 in_bits z small = to_z-of_z w128 z (fits_signed_from_abs w128 z small)
-
--- what is said of numbers that fit, where they do not
-pub unknown : {A : Type 0} → false ≡ true → A
-unknown known = absurd cc
 
 -- ---- terms whose numbers stand one row after another
 
@@ -123,9 +110,7 @@ module _ (to after : Terms) (e : Term) (shaped : IsShaped to)
   grown = ap length demands ∙ length-append to.demands.items (e.head.demands ∷ []) ∙ omega arith
 
   same_row : (k : ℕ) → k < n → (term_at after k).row ≡ (term_at to k).row
-  same_row k less =
-      let inside = row_within to.players n k less in
-      grind (arith, take-append-le, drop-append-le, length-drop)
+  same_row k less = grind (arith, row_within, take-append-le, drop-append-le, length-drop)
 
   new_row : (term_at after n).row ≡ e.row
   new_row = grind (arith, drop-append_seam, take-length)
@@ -137,16 +122,7 @@ module _ (to after : Terms) (e : Term) (shaped : IsShaped to)
   new_term = grind (arith, new_row, noted.1, get_or-append_seam)
 
   pub is_pushed : Pushed to after e
-  is_pushed = record {
-    pushed = ap (first_terms after) grown
-        ∙ (λ i. same_first to after n same_term i ++ new_term i ∷ []);
-    shaped = record {
-      count = ap length is ∙ length-append to.numbers.items e.row
-          ∙ (λ i. shaped.count i + one_each i) ∙ omega arith
-          ∙ (λ i. sym grown i * sym players i);
-      scaled = scaled;
-    };
-  }
+  is_pushed = search (rules, grown, same_first, same_term, new_term, length-append)
 
 -- ---- two terms over one denominator
 
@@ -339,16 +315,8 @@ first_merge from step action chosen some are to none shaped alike =
       merging = rw none (chosen_parts from step action some chosen are);
       alike = alike;
       order = (shaped, empty.0);
-      frees = record {
-        rises = λ less. empty.1 _;
-        least = λ k at less. omega arith;
-        within = are.free.bound;
-      };
-      owns = record {
-        rises = λ less. empty.1 _;
-        least = λ k at less. are.start.above k at (omega (arith, less, are.end.bound));
-        within = are.end.bound;
-      };
+      frees = grind arith;
+      owns = grind arith;
     }
 
 module _ {from : Terms} {step action lowest free_end own_end free own : ℕ} {to after : Terms}
@@ -446,13 +414,7 @@ pub more_pushing : (f : Term → Term) (done next : List Term) (e : Term) (old t
     → AreAlike after to → IsShaped after → EndsBelow to.demands.items (f e).head.demands
     → Pushing f next old after
 more_pushing f done next e old to after next_is before is alike shaped ends = record {
-  is = cc (
-    is,
-    before.is,
-    next_is,
-    map-append f done (e ∷ []),
-    append_assoc (all_terms old) (map f done) (f e ∷ []),
-  );
+  is = grind (arith, map-append, append_assoc);
   alike = (alike.0 ∙ before.alike.0, alike.1 ∙ before.alike.1);
   order = (shaped, ordered_more to after (f e) is before.order.1 ends);
 }

@@ -44,8 +44,6 @@ product_picked (n ∷ counts) h = grind (arith, product_picked counts h.1)
 pub picked_at : (counts : List ℕ) (number : ℕ) → ArePositive counts → number < product counts
     → get_or (all_choices (picked counts counts)) number []
     ≡ picked counts (get_or (all_choices counts) number [])
-picked_at [] number h less = grind arith
-picked_at (zero ∷ counts) number h less = absurd (omega (arith, h.0))
 picked_at (suc zero ∷ counts) number h less =
     let small : number < product counts = omega (arith, less) in
     let whole : number % product counts ≡ number = mod-eq_of_lt small in
@@ -59,6 +57,7 @@ picked_at (suc (suc n) ∷ counts) number h less =
     (rw same less) in
     let later = picked_at counts (number % product counts) h.1 (mod-lt number some) in
     rw (there, next, same, later) refl
+picked_at counts number h less = grind arith
 
 -- with more than one action, one more is at most the square
 width_square : (counts : List ℕ) → ArePositive counts
@@ -114,10 +113,6 @@ stride_divides [] i less = absurd (omega arith)
 pub choice_by_stride : (counts : List ℕ) (number i : ℕ) → number < product counts
     → i < length counts → get_or (get_or (all_choices counts) number []) i 0
     ≡ number / get_or (strides_of counts) i 0 % get_or counts i 0 + 1
-choice_by_stride (n ∷ counts) number zero less within =
-    let parts = positive_parts n (product counts) number less in
-    let below : number / product counts < n = (div-lt_iff_lt-mul parts.1).1 less in
-    grind (arith, choices_next, mod-eq_of_lt)
 choice_by_stride (n ∷ counts) number (suc i) less within =
     let p = product counts in
     let parts = positive_parts n p number less in
@@ -130,7 +125,8 @@ choice_by_stride (n ∷ counts) number (suc i) less within =
     let same = faster_part (number / p) p (number % p) step c above divides in
     let whole : number / p * p + number % p ≡ number = omega (arith, mod-add-div number p) in
     grind (arith, choices_next, rw whole at same)
-choice_by_stride [] number i less within = absurd (omega (arith, within))
+choice_by_stride counts number i less within =
+    grind (arith, positive_parts, div-lt_iff_lt-mul, choices_next, mod-eq_of_lt)
 
 -- ---- a set among a player's
 
@@ -178,9 +174,7 @@ said_there keys xs place key distinct there =
 module _ (g : Game) (game : IsGame g) where
   positive_for : (players : List ℕ) → ArePositive (in_order (map (action_counts g) players))
   positive_for [] = tt
-  positive_for (player ∷ players) =
-      all_both (λ count. 0 < count) (in_order (map (action_counts g) players))
-      (action_counts g player) (positive_for players) (actions_positive g game player)
+  positive_for (player ∷ players) = grind (arith, all_both, actions_positive, positive_for players)
 
   products_for : (players : List ℕ) → map product (map (action_counts g) players)
       ≡ map (λ player. length (strategies g player)) players
@@ -266,13 +260,8 @@ module _ (g : Game) (game : IsGame g) (d : Digits) (values : ℕ) where
         ∙ said_there keys (get_or all i []) here.place key (keys_distinct g game key.player)
         here.there) in
         rw are.each at (among_all all counted profile i (choices_by g all key)
-        (length set.actions) (choices_by g profile key) are.as_many chosen.0 (record {
-          place = here.place;
-          within = rw (own, length-map) here.within;
-          step_is = said all;
-          count_is = rw own here.count;
-          choice_is = said profile;
-        }))
+        (length set.actions) (choices_by g profile key) are.as_many chosen.0
+        (grind (arith, length-map)))
 
     digits_are : AreDigits g is_personal (choices_by g steps) (choices_by g profile)
         (digit_actions d) choices

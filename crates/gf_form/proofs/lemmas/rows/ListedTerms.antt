@@ -9,7 +9,7 @@ use Common.{EndsBelow, HasShares, IsExactAt, all_parts, all_terms, dvd_trans, mu
 use Common.{number_at, IsShaped, all_both, take-add, *ℤ-zero, ArePaid, IsSumOf, one-dvd, term_of, ℕ}
 use Common.{zero-*ℤ, add-*ℤ, get_or, length, pay_at, sum_by, Tells, Terms, arith, false, meets, suc}
 use Common.{subst, Bool, Game, List, Path, Term, drop, ints, refl, take, true, zero, ◌*ℤ◌, ◌++◌, ap}
-use Common.{◌+ℤ◌, ◌==◌, sym, ◌*◌, ◌+◌, ◌-◌, ◌/◌, ◌<◌, ◌∙◌, ◌∣◌, ◌∷◌, ◌≡◌, ◌≤◌, ℤ}
+use Common.{◌+ℤ◌, ◌==◌, sym, ◌*◌, ◌+◌, ◌-◌, ◌/◌, ◌<◌, ◌∙◌, ◌∣◌, ◌∷◌, ◌≡◌, ◌≤◌, ℤ, rules}
 use Rattle.gf_form.proofs.lemmas.rows.FlatRows.{ordered_more, below_more, all_in}
 use Rattle.gf_form.proofs.lemmas.rows.MergedTerms.{size_append, sum_append, both_come, come_both}
 use Rattle.gf_form.proofs.lemmas.rows.MergedTerms.{come_none, same_come, scaled}
@@ -27,15 +27,11 @@ use Rattle.std.proofs.lemmas.List.Sums.{sum_by-cons}
 module _ (g : Game) (player den : ℕ) (steps choices : List ℕ) where
   pub shares_append : (xs ys : List Path) → sum_of_shares g player den steps choices (xs ++ ys)
       ≡ sum_of_shares g player den steps choices xs +ℤ sum_of_shares g player den steps choices ys
-  shares_append xs ys =
-      rw map-append (sum_append den steps choices 1 (node_terms g player xs)
-      (node_terms g player ys))
+  shares_append xs ys = grind (arith, map-append, sum_append)
 
   pub bounds_append : (xs ys : List Path) → met_bounds g player den steps choices (xs ++ ys)
       ≡ met_bounds g player den steps choices xs + met_bounds g player den steps choices ys
-  bounds_append xs ys =
-      rw map-append (size_append den steps choices (node_terms g player xs)
-      (node_terms g player ys))
+  bounds_append xs ys = grind (arith, map-append, size_append)
 
 -- ---- terms with the same demands, over a multiple of their denominator
 
@@ -49,9 +45,7 @@ module _ (den : ℕ) (steps choices : List ℕ) (demands : ℕ) where
       ≡ sum_of_terms k m [] [] es *ℤ pos (den / m))
   all_met m above divides met [] alike exact = (tt, λ k. sym (zero-*ℤ (pos (den / m))))
   all_met m above divides met (e ∷ es) alike exact =
-      let later = all_met m above divides met es alike.1 exact.1 in
-      let own = exact.0 refl in
-      grind (arith, scaled, add-*ℤ, dvd_trans)
+      grind (arith, scaled, add-*ℤ, dvd_trans, all_met m above divides met es alike.1 exact.1)
 
 -- ---- nodes with the same demands, and their term
 
@@ -139,9 +133,7 @@ module _ (rows : List (List Ratio)) (players : ℕ) (rs : List Path)
 
   rises : (d : Path) → end < length rs
       → more.term.head.demands ≤ (get_or rs end d).demands
-  rises d there =
-      let le = sorted at end d (omega (arith, onward)) there in
-      grind (arith, get_or_default)
+  rises d there = grind (arith, get_or_default)
 
   pub nodes_listed : IsShaped new → new.players ≡ old.players
       → Listing rows players rs end new
@@ -175,19 +167,10 @@ module _ (k den : ℕ) (steps choices : List ℕ) where
   as_sizes : (es : List Term) → up (total es) + sum_by (λ e. down (counted e)) es
       ≡ sum_by (λ e. up (counted e)) es + down (total es)
   as_sizes [] = refl
-  as_sizes (e ∷ es) = omega (
-    arith,
-    as_sizes es,
-    sum_is_lem (counted e) (total es),
-    sum_by-cons (λ e. up (counted e)) e es,
-    sum_by-cons (λ e. down (counted e)) e es,
-  )
+  as_sizes (e ∷ es) = search (rules, sum_is_lem, sum_by-cons, up, down, as_sizes es)
 
   sum_permuted : (es fs : List Term) → IsPermutation es fs → total es ≡ total fs
-  sum_permuted es fs h =
-      let ups = sum_by-IsPermutation (λ e. up (counted e)) es fs h in
-      let downs = sum_by-IsPermutation (λ e. down (counted e)) es fs h in
-      same_in (total es) (total fs) (omega (arith, as_sizes es, as_sizes fs, ups, downs))
+  sum_permuted es fs h = grind (arith, sum_by-IsPermutation, up, down, same_in, as_sizes)
 
 come_permuted : (es fs : List Term) → IsPermutation es fs → ComeAsWell es fs
 come_permuted es fs order den steps choices all = record {
@@ -255,14 +238,7 @@ module _ (pay : Ratio) (a b sum : Path) where
           let above = rw is at known in
           let pays : 0 < pay.den = mul_pos_right sum.den pay.den _ refl above in
           let told = adds (mul_pos_left sum.den pay.den _ refl above) in
-          rw is (grind (
-            arith,
-            mul_above,
-            mul-dvd-mul_right,
-            mul-div-mul_right,
-            number_added (sum.den / a.den) (sum.den / b.den),
-            told,
-          ))
+          rw is (grind (arith, mul_above, mul-dvd-mul_right, mul-div-mul_right, number_added))
 
 sum_shares : (r s sum : Path) → IsNodeSum r s sum → HaveSharesOf (r ∷ s ∷ []) (sum ∷ [])
 sum_shares r s sum h g player den steps choices exact =

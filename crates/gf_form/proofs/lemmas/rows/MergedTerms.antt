@@ -193,17 +193,10 @@ module _ (den : ℕ) (steps choices : List ℕ) where
   sum_append k [] ys = sym (+ℤ_idl (sum_of_terms k den steps choices ys))
   sum_append k (x ∷ xs) ys = grind (arith, +ℤ_assoc, sum_append k xs ys)
 
-  one_above : (met : Bool) (m n : ℕ) (s : ℤ) → s ≡ pos (unsigned_abs s)
-      → (if met then pos m *ℤ pos n else pos 0) +ℤ s
-      ≡ pos (unsigned_abs ((if met then pos m *ℤ pos n else pos 0) +ℤ s))
-  one_above met m n s above = grind (arith, ints)
-
   sizes_above : (es : List Term) → sum_of_terms 0 den steps choices es
       ≡ pos (unsigned_abs (sum_of_terms 0 den steps choices es))
   sizes_above [] = refl
-  sizes_above (e ∷ es) =
-      one_above (meets steps choices e.head.demands) e.head.size (den / e.head.den)
-      (sum_of_terms 0 den steps choices es) (sizes_above es)
+  sizes_above (e ∷ es) = grind (arith, sizes_above es)
 
   pub size_append : (xs ys : List Term)
       → unsigned_abs (sum_of_terms 0 den steps choices (xs ++ ys))
@@ -272,10 +265,7 @@ module _ (den : ℕ) (steps choices : List ℕ) (a b sum : Term)
 
   pub both_come : ComeTo den steps choices (a ∷ b ∷ []) steps choices (sum ∷ [])
   both_come = record {
-    exact = (
-      λ met. grind (arith, met_first, dvd_trans),
-      (λ met. grind (arith, met_second, dvd_trans), tt),
-    );
+    exact = grind (arith, met_first, dvd_trans, met_second);
     sums = λ k. omega (arith, ints, both_sum k);
   }
 
@@ -296,9 +286,7 @@ take_next step action terms left more others xs ys t come before den steps choic
     let rest = all_parts P more others done.1 in
     let own = come den steps choices made.1 in
     let each = all_parts P xs ys own.exact in
-    let parts = before den steps choices (all_both P left ((xs ++ more) ++ (ys ++ others)) made.0
-    (all_both P (xs ++ more) (ys ++ others) (all_both P xs more each.0 rest.0)
-    (all_both P ys others each.1 rest.1))) in record {
+    let parts = before den steps choices (grind (arith, all_both)) in record {
       exact = parts.exact;
       sums = λ k.
           let whole = simp sum_append at (parts.sums k) in

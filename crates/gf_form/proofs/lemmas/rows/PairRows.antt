@@ -4,7 +4,7 @@ use Rattle.gf_form.proofs.Common
 use Common.{mul-le-mul_right, asked_profiles, mul-div_cancel, full_profiles, strategies_at, IsScale}
 use Common.{ArePayoffsAt, one_fraction, AreTermsFor, IsSpellable, all_choices, first_terms, Settles}
 use Common.{AreNodesOf, AreWritten, HasPairRow, IsFraction, IsPaidPair, actions_at, choices_by, Run}
-use Common.{zero_ratio, AreChosen, AreMerged, HasValues, HaveSteps, SettlesAt, all_terms, SettleBy}
+use Common.{AreChosen, AreMerged, HasValues, HaveSteps, SettlesAt, all_terms, SettleBy}
 use Common.{all_both, at_place, cases_lt, steps_of, lowered, product, term_at, Chosen, IfSome, Game}
 use Common.{IsGame, get_or, length, Asked, Digit, Ratio, Scale, Terms, arith, meets, spans, value}
 use Common.{List, Some, Term, ints, lit<, part, true, zero, ◌*ℤ◌, ◌++◌, ◌+ℤ◌, inl, inr, map, pos, ℕ}
@@ -63,9 +63,7 @@ settled_after g n ns terms left least number b first before less is from to merg
 -- a digit, and the faster ones
 pub first_step : (slowest : Digit) (faster : List Digit) → HaveSteps (slowest ∷ faster)
     → (slowest.step ≡ product (spans (actions_at faster))) × HaveSteps faster
-first_step slowest faster have =
-    let is : slowest.step ∷ map (λ (d : Digit). d.step) faster
-    ≡ product (spans (actions_at faster)) ∷ steps_of (actions_at faster) = have in (cc, cc)
+first_step slowest faster have = grind arith
 
 pub faster_within : (slowest : Digit) (faster : List Digit)
     → product (spans (actions_at (slowest ∷ faster))) < 2 ^ 64
@@ -181,8 +179,7 @@ paid_pair g (n ∷ []) from least number action chosen pair one before is are co
     paid g number [] [] _ pair (settled_left g number 1 action [] [] (all_terms from) _
     (chosen_parts from 1 action (omega (arith, is)) chosen are) (rw choices at before.settles))
     (come (action * 1))
-paid_pair g ns from least number action chosen pair one before is are come =
-    absurd (omega (arith, one))
+paid_pair g ns from least number action chosen pair one before is are come = grind arith
 
 -- a term that demands nothing is met by all choices
 pub free_met : (ns choices : List ℕ) → meets (steps_of ns) choices 0 ≡ true
@@ -257,5 +254,4 @@ next_row asked game spellable before players pair written after old new within a
         (choices_by asked.game.now (strategies_at asked.game.now (asked_at asked before))) (suc k)
         asked.game.now.tree ≡ Some (at_place more.row k)
     values k less =
-        let here = more.each k zero_ratio (omega (arith, less, all)) in
         grind (arith, one_fraction)

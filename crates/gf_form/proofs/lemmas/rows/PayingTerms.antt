@@ -61,11 +61,7 @@ module _ (k den most : ℕ) (above : 0 < den) (steps choices : List ℕ) where
       → sum_of_terms k most steps choices es *ℤ pos den
       ≡ sum_of_terms k den steps choices es *ℤ pos most
   all_scaled [] all exact = zero-*ℤ (pos den) ∙ sym (zero-*ℤ (pos most))
-  all_scaled (e ∷ es) all exact =
-      let later = all_scaled es all.1 exact.1 in
-      let first = one_scaled (meets steps choices e.head.demands) (number_at k e) e.head.den all.0
-      exact.0 in
-      grind (arith, add-*ℤ)
+  all_scaled (e ∷ es) all exact = grind (arith, one_scaled, add-*ℤ, all_scaled es all.1 exact.1)
 
 -- ---- some of the terms
 
@@ -74,9 +70,7 @@ kept_next : (es left : List Term) (e f : Term) → f.head.demands ≡ e.head.dem
     → Kept es left → Kept (es ++ e ∷ []) (left ++ f ∷ [])
 kept_next es left e f demands numbers den before = record {
   sums = λ k most steps choices. grind (arith, sum_append, numbers);
-  among = λ most all. let parts = all_parts (IsOver most) es (e ∷ []) all in
-      all_both (IsOver most) left (f ∷ []) (before.among most parts.0)
-      (den ∙ parts.1.0, tt);
+  among = λ most all. grind (arith, all_both, all_parts (IsOver most) es (e ∷ []) all);
 }
 
 kept_zero : (es left : List Term) (e : Term) → ((k : ℕ) → number_at (suc k) e ≡ pos 0)
@@ -107,11 +101,7 @@ settled_as_well from left den fit kept g number steps choices settles k less mos
       fraction = base.fraction;
       is_value = base.is_value;
       over = *ℤ-cancel_right (num *ℤ pos most) (left_whole *ℤ pos own) den fit.above
-          (*ℤ_right_comm num (pos most) (pos den)
-          ∙ ap (λ (z : ℤ). z *ℤ pos most) base.over
-          ∙ *ℤ_right_comm whole (pos own) (pos most)
-          ∙ ap (λ (z : ℤ). z *ℤ pos own) same
-          ∙ *ℤ_right_comm left_whole (pos den) (pos own));
+          (grind (arith, *ℤ_right_comm));
     }
 
 -- ---- while they are gone over
@@ -136,9 +126,7 @@ module _ (from : Terms) (i : ℕ) (left : Terms) (sorted : AreOrdered from)
       → AreAlike after left → IsShaped after → Paying from (i + 1) after
   more_paying after is alike shaped =
       let t = lowered 0 (term_at from i) in record {
-        kept = rw (one_more, is, lowered_none (term_at from i))
-            (kept_next (first_terms from i) (all_terms left) (term_at from i) (term_at from i) refl
-            (λ k. refl) refl before.kept);
+        kept = grind (arith, one_more, lowered_none, kept_next);
         alike = (alike.0 ∙ before.alike.0, alike.1 ∙ before.alike.1);
         order = (shaped, ordered_more left after t is before.order.1 (before.may.rises less));
         may = skips sorted (waits left after t is before.may (λ _. omega arith)) less;
@@ -214,11 +202,7 @@ settled_at g actions from left least number as_well before = grind arith
 
 nothing_comes : (path : Path) (pay : Ratio) → pay ≡ zero_ratio
     → ComeAsWell (term_of path pay ∷ []) []
-nothing_comes path pay nothing = rw nothing (λ den steps choices _. record {
-  exact = ((λ _. (omega arith, one-dvd den)), tt);
-  sums = λ n. none_first n den steps choices (term_of path zero_ratio) []
-      (no_number path zero_ratio n refl);
-})
+nothing_comes path pay nothing = rw nothing (grind (arith, one-dvd, none_first, no_number))
 
 module _ (g : Game) (rows : List (List Ratio)) (are : ArePaid g rows) (k : ℕ) where
   abbrev terms : List Path → List Term

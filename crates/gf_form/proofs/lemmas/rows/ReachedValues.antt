@@ -240,12 +240,8 @@ module _ (g : Game) (player den : ℕ) where
         by : (b : Bool) → (a == 0) ≡ b → (r : Ratio) × (product_of c h.ratio ≡ Some r)
             × IsFraction r × IsPart den path.den r part
         by true is =
-            let none : c.num ≡ pos 0 = sign ∙ ap pos (eqb-true a 0 is) in (
-              zero_ratio,
-              none_times c fc none h.ratio h.fraction,
-              zero_fraction,
-              grind (arith, zero-*ℤ),
-            )
+            let none : c.num ≡ pos 0 = sign ∙ ap pos (eqb-true a 0 is) in
+            grind (arith, none_times, h, zero_fraction, zero-*ℤ)
         by false is =
             let likely = eqb-false a 0 is in
             product_part den fits.den_above_zero fits.den_within path.den c h.ratio h.amount fc
@@ -313,17 +309,11 @@ module _ (g : Game) (game : IsGame g) (spellable : IsSpellable g) (choose : SetK
       → IfFits (value_over (payoff_at g player n) o (value_below n ts)) path
       (met_if idle adds path (paid_at_node g n) ∷ map node_at (option_map_or
       (below_followed n ts (met_if idle adds path (paid_at_node g n))) o []))
-  node_valued n ts path below o at false idle adds is =
-      let above = eqb-false path.bound 0 idle in
-      awake_valued n ts path (omega (arith, above)) below o at
+  node_valued n ts path below o at false idle adds is = grind (arith, eqb-false, awake_valued)
   node_valued n ts path below None at true idle true is = absurd cc
-  node_valued n ts path below None at true idle false is = λ fits.
-      let unbound = eqb-true path.bound 0 idle in
-      let own = met_if true false path (paid_at_node g n) in
-      zero_valued _ _ _ own (own ∷ []) (payoff_fraction g spellable player n)
-      (λ some. absurd (omega (arith, some, unbound))) (none_shared g player den own refl [])
+  node_valued n ts path below None at true idle false is =
+      grind (arith, eqb-true, zero_valued, payoff_fraction, none_shared)
   node_valued n ts path below (Some key) at true idle true is = λ fits.
-      let unbound = eqb-true path.bound 0 idle in
       let anew = met_if true true path (paid_at_node g n) in
       let on = awake_valued n ts anew (omega arith) below (Some key) at fits in
       grind arith
@@ -342,9 +332,7 @@ module _ (g : Game) (game : IsGame g) (spellable : IsSpellable g) (choose : SetK
       → ((j : ℕ) → k ≤ j → states j ≡ None) → entered states k ts ≡ []
   none_entered states k none h = refl
   none_entered states k (more t ts) h =
-      let here = h k (omega arith) in
-      let later = none_entered states (k + 1) ts (λ j from. h j (omega (arith, from))) in
-      grind arith
+      grind (arith, none_entered states (k + 1) ts (λ j from. h j (omega (arith, from))))
 
   either : (path : Path) (b : Bool) (player : ℕ) → (player == 0) ≡ b → {v w : Option Ratio}
       {rs : List Path} → (player ≡ 0 → IfFits v path rs)
