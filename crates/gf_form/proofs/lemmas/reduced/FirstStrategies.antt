@@ -1,21 +1,21 @@
 -- The first of the strategies that reduce to the same one: it has the first action wherever no
 -- choice matters. And the profiles of first strategies are those of the reduced form, in its order.
 use Rattle.gf_form.proofs.Common
-use Common.{AreReducedPayoffsAt, unwrap_or-slice_get, ReducedOverflowsAt, false_from_ne_true, Bool}
-use Common.{reduced_strategies, Any-from_list_any, AreProfileNumbers, numbered_profiles, AreFirsts}
-use Common.{same_set_equality, HasReducedValues, mul-le-mul_right, reduced_profiles, IsReducedForm}
-use Common.{length-profiles, AllByRecursion, IsFirstWithout, get_or_default, is_relevant_at, Entry}
-use Common.{length-take-le, reduced_labels, action_counts, full_profiles, if◌then◌else◌, ArePicked}
-use Common.{profile_limit, relevant_sets, ArePayoffsAt, are_profiles, on_ok_weaker, AllZip-long, ℕ}
-use Common.{AreDistinct, AreFirstsOf, IfOk-weaker, get_or-take, is_relevant, length-take, AreBelow}
-use Common.{list_any_at, player_keys, same_choice, strategy_at, AreFoundTo, IsEquality, IsFormWith}
-use Common.{all_weaker, first_uses, get_or-map, known_more, length-map, map-append, more_known, []}
-use Common.{mul-le-mul, players_of, reduced_at, reduced_by, strategies, AreRowsAt, HasValues, Game}
-use Common.{IsProfile, choice_at, pointwise, take_more, Contains, IsPaidAt, IsPicked, all_both, ap}
-use Common.{list_any, map_same, numbered, profiles, take-map, IsFirst, add-one, full_at, product}
-use Common.{reduced, AllZip, IsGame, Option, SetKey, get_or, length, Ratio, Table, arith, false}
-use Common.{shown, subst, List, None, Some, refl, take, true, zero, ◌++◌, map, set, suc, sym, zip}
-use Common.{◌*◌, ◌+◌, ◌-◌, ◌<◌, ◌↔◌, ◌∙◌, ◌∷◌, ◌≡◌, ◌≤◌}
+use Common.{AreReducedPayoffsAt, unwrap_or-slice_get, ReducedOverflowsAt, false_from_ne_true, Entry}
+use Common.{reduced_strategies, Any-from_list_any, AreProfileNumbers, numbered_profiles, AreFoundTo}
+use Common.{same_set_equality, HasReducedValues, mul-le-mul_right, reduced_profiles, AllByRecursion}
+use Common.{length-profiles, IsFirstWithout, get_or_default, is_relevant_at, length-take-le, AllZip}
+use Common.{reduced_labels, IsReducedForm, action_counts, full_profiles, if◌then◌else◌, AllZip-long}
+use Common.{profile_limit, relevant_sets, ArePayoffsAt, are_profiles, on_ok_weaker, AreDistinct, []}
+use Common.{AreFirstsOf, IfOk-weaker, get_or-take, is_relevant, length-take, list_any_at, AreFirsts}
+use Common.{player_keys, same_choice, strategy_at, IsEquality, IsFormWith, all_weaker, first_uses}
+use Common.{get_or-map, known_more, length-map, map-append, more_known, mul-le-mul, reduced_at, map}
+use Common.{reduced_by, strategies, ArePicked, AreRowsAt, HasValues, IsProfile, choice_at, AreBelow}
+use Common.{pointwise, take_more, Contains, IsPaidAt, IsPicked, all_both, list_any, map_same, Ratio}
+use Common.{numbered, take-map, IsFirst, add-one, full_at, product, reduced, IsGame, Option, SetKey}
+use Common.{get_or, length, Table, arith, false, shown, Bool, Game, List, None, Some, refl, take, ℕ}
+use Common.{true, zero, ◌++◌, set, suc, sym, zip, ◌*◌, ◌+◌, ◌-◌, ◌<◌, ◌↔◌, ◌∙◌, ◌∷◌, ◌≡◌, ◌≤◌, ap}
+use Common.{rules}
 use Rattle.std.proofs.lemmas.List.Sums.{count_by-le-length, length-filter}
 use Rattle.gf_form.proofs.lemmas.strategies.Chosen.{strategy_before, choice_length, keys_distinct}
 use Rattle.gf_form.proofs.lemmas.strategies.Chosen.{at_its_place, are_choices, first_alike, place}
@@ -49,24 +49,13 @@ module _ {K : Type 0} (same : K → K → Bool) (tells : IsEquality same) (ks : 
   used_again : (m : ℕ) → m < i → get_or ks m d ≡ get_or ks i d
       → first_uses same (take (i + 1) ks) ≡ first_uses same (take i ks)
   used_again m early is =
-      one_more true (list_any_at (same (get_or ks i d)) (take i ks) m d
-      (omega (arith, early, less, length-take-le i ks (omega (arith, less))))
-      ((tells _ (get_or (take i ks) m d)).1 (sym is ∙ sym (get_or-take i ks m d early))))
+      one_more true (grind (arith, list_any_at, length-take-le, get_or-take))
 
   -- that was not
   used_first : ((m : ℕ) → m < i → ¬ (get_or ks m d ≡ get_or ks i d))
       → first_uses same (take (i + 1) ks) ≡ first_uses same (take i ks) ++ get_or ks i d ∷ []
   used_first new =
-      one_more false
-      (grind (
-        arith,
-        false_from_ne_true,
-        Any-from_list_any,
-        get_or-take,
-        get_or_default,
-        length-take,
-        tells,
-      ))
+      one_more false (grind (arith, Any-from_list_any, get_or-take, get_or_default, length-take))
 
 -- ---- strategies by flags
 
@@ -79,8 +68,7 @@ first_there (count ∷ counts) (a ∷ s) zero h less other =
     mul-le-mul_right (product counts) (omega (arith, h.0.0, other)) in
     (((omega arith, omega (arith, h.0.0, h.0.1)), h.1), omega (arith, up, some))
 first_there (count ∷ counts) (a ∷ s) (suc q) h less other =
-    let later = first_there counts s q h.1 (omega (arith, less)) other in
-    ((h.0, later.0), omega (arith, later.1))
+    grind (arith, first_there counts s q h.1 (omega (arith, less)) other)
 first_there [] [] q h less other = absurd (omega (arith, less))
 first_there counts s q h less other = absurd h
 
@@ -88,7 +76,6 @@ first_there counts s q h less other = absurd h
 choice_kept : (relevant : SetKey → Bool) (keys : List SetKey) (s : List ℕ) (q : ℕ) (key : SetKey)
     → q < length keys → get_or (map relevant keys) q false ≡ false → relevant key ≡ true
     → choice_at keys s key ≡ choice_at keys (set s q 1) key
-choice_kept relevant (k ∷ keys) (a ∷ s) zero key less flag h = grind (arith, same_set_equality)
 choice_kept relevant (k ∷ keys) (a ∷ s) (suc q) key less flag h =
     grind (arith, choice_kept relevant keys s q key)
 choice_kept relevant keys s q key less flag h = grind arith
@@ -288,10 +275,8 @@ record Reduces (g : Game) (full profile : List ℕ) : Type 0 where
 -- these full profiles, in place of those that they reduce to
 paid_over : (g : Game) (fulls ps : List (List ℕ)) (rows : List (List Ratio))
     → AllZip (Reduces g) fulls ps → AllZip (ArePayoffsAt g) fulls rows → AllZip (IsPaidAt g) ps rows
-paid_over g (full ∷ fulls) (profile ∷ ps) (row ∷ rows) h k = (
-  record { full = full; there = h.0.there; reduces = h.0.is; paid = k.0 },
-  paid_over g fulls ps rows h.1 k.1,
-)
+paid_over g (full ∷ fulls) (profile ∷ ps) (row ∷ rows) h k =
+    grind (arith, paid_over g fulls ps rows h.1 k.1)
 paid_over g fulls ps rows h k = grind arith
 
 zip_turned : {A B C : Type 0} (P : A → Type 0) (R : A → B → Type 0) (S : C → A → Type 0)
@@ -313,27 +298,13 @@ module _ (g : Game) (firsts : List (List ℕ)) (numbers : List ℕ)
   each_reduces : (profile : List ℕ) (number : ℕ) → IsProfile (map length firsts) profile
       → IsPicked (strategy_counts g) firsts profile number
       → Reduces g (get_or (full_profiles g) number []) profile
-  each_reduces profile number valid one =
-      let full = get_or (full_profiles g) number [] in
-      let within : number < length (full_profiles g) =
-      omega (arith, one.within, length-profiles (strategy_counts g)) in record {
-        there = (number, within, get_or_default (full_profiles g) number full [] within);
-        is = ap (λ (full : List ℕ). reduced_by g full) one.is
-            ∙ reduces g (players_of g) firsts profile theirs.are valid;
-      }
+  each_reduces profile number valid one = search (rules, length-profiles, get_or_default, reduces)
 
   -- what is so of each full profile and what it reduces to
   all_so : (S : List ℕ → List ℕ → Type 0)
       → ((full profile : List ℕ) → Reduces g full profile → S full profile)
       → AllZip S (numbered_profiles g numbers) (reduced_profiles g)
-  all_so S so =
-      subst (λ (ps : List (List ℕ)). AllZip S (numbered_profiles g numbers) ps)
-      (ap profiles (counted_of g (players_of g) firsts theirs.are))
-      (zip_turned (IsProfile (map length firsts)) (IsPicked (strategy_counts g) firsts) S
-      (λ number. get_or (full_profiles g) number [])
-      (λ profile number valid one. so (get_or (full_profiles g) number []) profile
-      (each_reduces profile number valid one))
-      (profiles (map length firsts)) numbers (are_profiles (map length firsts)) theirs.picked)
+  all_so S so = grind (arith, counted_of, zip_turned, each_reduces, are_profiles)
 
   all_reduce : AllZip (Reduces g) (numbered_profiles g numbers) (reduced_profiles g)
   all_reduce = all_so (Reduces g) (λ full profile h. h)
@@ -342,11 +313,7 @@ module _ (g : Game) (firsts : List (List ℕ)) (numbers : List ℕ)
   their_numbers = grind (arith, all_right, strategy_counts, length-profiles)
 
   pub few_numbers : length numbers ≤ profile_limit
-  few_numbers =
-      let long =
-      AllZip-long (Reduces g) (numbered_profiles g numbers) (reduced_profiles g) all_reduce in
-      let counted = length-map numbers (λ number. get_or (full_profiles g) number []) in
-      omega (arith, long, counted, fewer_profiles g, theirs.few)
+  few_numbers = grind (arith, AllZip-long, all_reduce, length-map, fewer_profiles)
 
   pub reduced_rows : (payoffs : List Ratio)
       → AreRowsAt (ArePayoffsAt g) (numbered_profiles g numbers) payoffs
@@ -356,10 +323,7 @@ module _ (g : Game) (firsts : List (List ℕ)) (numbers : List ℕ)
   their_values : AllZip (λ full profile. HasValues g full ↔ HasReducedValues g profile)
       (numbered_profiles g numbers) (reduced_profiles g)
   their_values = all_so (λ full profile. HasValues g full ↔ HasReducedValues g profile)
-      (λ full profile h. (
-        λ values other there is. same_values g full other (h.is ∙ sym is) values,
-        λ values. values full h.there h.is,
-      ))
+      (grind (arith, same_values))
 
   pub reduced_values : AllByRecursion (HasValues g) (numbered_profiles g numbers)
       → AllByRecursion (HasReducedValues g) (reduced_profiles g)

@@ -96,8 +96,7 @@ module _ (g : Game) where
       let k = full_of player s h.0.0 h.0.1 in
       let others = full_of_all players profile h.1 in
       (k.0 ∷ others.0, ((k.1, k.2), others.1), λ i. k.3 i ∷ others.2 i)
-  full_of_all [] [] h = ([], tt, refl)
-  full_of_all players profile h = absurd h
+  full_of_all players profile h = grind arith
 
   reduced_of_all : (players full : List ℕ) → IsProfile (full_counts players) full
       → (profile : List ℕ) × IsProfile (reduced_counts players) profile
@@ -106,8 +105,7 @@ module _ (g : Game) where
       let s = reduced_of player k h.0.0 h.0.1 in
       let others = reduced_of_all players full h.1 in
       (s.0 ∷ others.0, ((s.1, s.2), others.1), λ i. s.3 i ∷ others.2 i)
-  reduced_of_all [] [] h = ([], tt, refl)
-  reduced_of_all players full h = absurd h
+  reduced_of_all players full h = grind arith
 
   pub reduced_form_profiles : form_profiles (reduced_labels g) g ≡ reduced_profiles g
   reduced_form_profiles = grind (arith, length-map, map_same, map_twice)
@@ -133,10 +131,7 @@ module _ (g : Game) where
   pub one_reduced_form : (t u : Table) → IsReducedForm g t → IsReducedForm g u → t ≡ u
   one_reduced_form =
       one_form_by (reduced_labels g) (AreReducedPayoffsAt g) g (reduced_profiles g)
-      reduced_form_profiles (λ profile i a b h k.
-      let one = some_full profile i in
-      one_row g (choices_by g (strategies_at g one.0)) a b (players_of g) (h one.0 one.1 one.2)
-      (k one.0 one.1 one.2))
+      reduced_form_profiles (λ profile i a b h k. grind (arith, one_row, some_full profile i))
 
   pub reduced_form_exists : ((t : Table) × IsReducedForm g t) ↔ PaysFractions g
   reduced_form_exists = (

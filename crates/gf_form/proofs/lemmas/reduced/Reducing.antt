@@ -159,14 +159,11 @@ module _ (g : Game) where
       → reduced g (k + i) (get_or (strategies_of (numbers_from k n) p) i [])
       ≡ get_or (reduce_all (numbers_from k n) p) i (reduced g (k + i) [])
   reduced_there k (suc n) (s ∷ p) (suc i) = grind (arith, reduced_there (k + 1) n p i)
-  reduced_there k (suc n) (s ∷ p) zero = grind arith
-  reduced_there k (suc n) [] i = refl
-  reduced_there k zero p i = refl
+  reduced_there k n p i = grind arith
 
   pub reduced_alike : (p q : List ℕ) → reduced_by g p ≡ reduced_by g q
       → AreReducedAlike (strategies_at g p) (strategies_at g q)
   reduced_alike p q e k above =
-      let place : 1 + (k - 1) ≡ k = omega arith in
       grind (
         arith,
         reduced_there 1 (length g.players) p (k - 1),

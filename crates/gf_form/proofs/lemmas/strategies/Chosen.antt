@@ -13,7 +13,7 @@ use Common.{player_sets, option_map, get_or-map, length-map, strategies, players
 use Common.{HasActions, zero_ratio, of_filter, positions, slice_get, used_sets, IsProfile, flat_map}
 use Common.{choice_at, payoff_at, same_set, Contains, product, AllZip, IfSome, IsGame, SetKey, Game}
 use Common.{get_or, length, set_at, mod-lt, filter, arith, subst, List, Some, find, refl, true, has}
-use Common.{zero, ◌++◌, Node, map, suc, sym, ◌*◌, ◌+◌, ◌-◌, ◌<◌, ◌↔◌, ◌∙◌, ◌∷◌, ◌≡◌, ◌≤◌, ◌%◌, ◌/◌}
+use Common.{◌++◌, Node, map, suc, sym, ◌*◌, ◌+◌, ◌-◌, ◌<◌, ◌↔◌, ◌∙◌, ◌∷◌, ◌≡◌, ◌≤◌, ◌%◌, ◌/◌, rules}
 use Common.{zip, ap, ℕ}
 use Rattle.gf_tree.specs.FirstUse.{sets_of}
 
@@ -69,8 +69,7 @@ pub row_at : {A B : Type 0} (f : A → List B) (n : ℕ) → ((x : A) → length
     → get_or (flat_map f xs) (i * n + j) e ≡ get_or (f (get_or xs i d)) j e
 row_at f n each (x ∷ xs) (suc i) j d e less within =
     grind (arith, row_at f n each xs i j d e (omega (arith, less)) within, get_or-append-add)
-row_at f n each (x ∷ xs) zero j d e less within = grind (arith, get_or_append_left)
-row_at f n each [] i j d e less within = absurd (omega arith)
+row_at f n each xs i j d e less within = grind (arith, get_or_append_left)
 
 -- ---- lists place by place
 
@@ -92,11 +91,8 @@ zip_at R d e xs ys h k less = grind arith
 pub zip_in_turn : {A : Type 0} (R : A → ℕ → Type 0) (d : A) (xs : List A) (n : ℕ) → length xs ≡ n
     → ((k : ℕ) → k < n → R (get_or xs k d) (suc k)) → AllZip R xs (positions n)
 zip_in_turn R d xs n long h =
-    zip_by_places R d 0 xs (positions n) (long ∙ sym (length-numbers_from 1 n)) (λ k less.
-    let within : k < n = omega (arith, less, long) in
-    let number : get_or (positions n) k 0 ≡ suc k =
-    omega (arith, get_or-numbers_from 1 n k 0 within) in
-    rw number (h k within))
+    zip_by_places R d 0 xs (positions n) (long ∙ sym (length-numbers_from 1 n))
+    (grind (arith, long, get_or-numbers_from))
 
 pub all_in_turn : (P : ℕ → Type 0) (first n : ℕ) → ((k : ℕ) → k < n → P (first + k))
     → AllByRecursion P (numbers_from first n)
@@ -115,13 +111,11 @@ pub all_right : {A B : Type 0} (R : A → B → Type 0) (P : B → Type 0)
     → ((x : A) (y : B) → R x y → P y) → (xs : List A) (ys : List B) → AllZip R xs ys
     → AllByRecursion P ys
 all_right R P each (x ∷ xs) (y ∷ ys) h = (each x y h.0, all_right R P each xs ys h.1)
-all_right R P each [] [] h = tt
 all_right R P each xs ys h = grind arith
 
 zip_both : {A B : Type 0} (R : A → B → Type 0) (xs more : List A) (ys bs : List B) → AllZip R xs ys
     → AllZip R more bs → AllZip R (xs ++ more) (ys ++ bs)
 zip_both R (x ∷ xs) more (y ∷ ys) bs h k = (h.0, zip_both R xs more ys bs h.1 k)
-zip_both R [] more [] bs h k = k
 zip_both R xs more ys bs h k = grind arith
 
 pub zip_flat : {A B C D : Type 0} (R : A → B → Type 0) (S : C → D → Type 0) (f : A → List C)
@@ -129,7 +123,6 @@ pub zip_flat : {A B C D : Type 0} (R : A → B → Type 0) (S : C → D → Type
     (ys : List B) → AllZip R xs ys → AllZip S (flat_map f xs) (flat_map h ys)
 zip_flat R S f h each (x ∷ xs) (y ∷ ys) all =
     grind (arith, zip_both, zip_flat R S f h each xs ys all.1)
-zip_flat R S f h each [] [] all = tt
 zip_flat R S f h each xs ys all = grind arith
 
 -- ---- what holds of one list in turn exactly when it holds of the other
@@ -137,20 +130,17 @@ zip_flat R S f h each xs ys all = grind arith
 pub all_alike : {A B : Type 0} (P : A → Type 0) (Q : B → Type 0) (xs : List A) (ys : List B)
     → AllZip (λ x y. P x ↔ Q y) xs ys → AllByRecursion P xs → AllByRecursion Q ys
 all_alike P Q (x ∷ xs) (y ∷ ys) h all = (h.0.0 all.0, all_alike P Q xs ys h.1 all.1)
-all_alike P Q [] [] h all = tt
 all_alike P Q xs ys h all = grind arith
 
 alike_at : {A B : Type 0} (P : A → Type 0) (Q : B → Type 0) (xs : List A) (ys : List B)
     (position : ℕ) (x : A) → AllZip (λ x y. P x ↔ Q y) xs ys → at_position xs position ≡ Some x
     → (y : B) × (at_position ys position ≡ Some y) × (P x ↔ Q y)
 alike_at P Q (z ∷ xs) (y ∷ ys) (suc (suc k)) x h at = alike_at P Q xs ys (suc k) x h.1 at
-alike_at P Q (z ∷ xs) (y ∷ ys) (suc zero) x h at = (y, refl, grind arith)
-alike_at P Q xs ys position x h at = absurd (grind arith)
+alike_at P Q xs ys position x h at = grind arith
 
 pub alike_back : {A B : Type 0} (P : A → Type 0) (Q : B → Type 0) (xs : List A) (ys : List B)
     → AllZip (λ x y. P x ↔ Q y) xs ys → AllZip (λ y x. Q y ↔ P x) ys xs
 alike_back P Q (x ∷ xs) (y ∷ ys) h = ((h.0.1, h.0.0), alike_back P Q xs ys h.1)
-alike_back P Q [] [] h = tt
 alike_back P Q xs ys h = grind arith
 
 -- the first one of which it does not hold
@@ -199,16 +189,7 @@ pub choices_row : (n : ℕ) (counts : List ℕ) (before k : ℕ) → before < n 
 choices_row n counts before k within less =
     let all = all_choices counts in
     let row = row_at (begun all) (length all) (as_many all) (positions n) before k 0 [] in
-    let next : 1 + before ≡ before + 1 = omega arith in
-    grind (
-      arith,
-      row,
-      next,
-      get_or-map,
-      get_or-numbers_from,
-      length-all_choices counts,
-      length-numbers_from,
-    )
+    grind (arith, get_or-map, get_or-numbers_from, length-all_choices, length-numbers_from)
 
 pub positive_parts : (m n k : ℕ) → k < m * n → (0 < m) × (0 < n)
 positive_parts m n k h = grind arith
@@ -217,13 +198,7 @@ pub choices_next : (count : ℕ) (counts : List ℕ) (rest : ℕ) → 0 < produc
     → rest < count * product counts → get_or (all_choices (count ∷ counts)) rest []
     ≡ (rest / product counts + 1) ∷ get_or (all_choices counts) (rest % product counts) []
 choices_next count counts rest some below =
-    grind (
-      arith,
-      div-add-mod,
-      div-lt_iff_lt-mul,
-      mod-lt,
-      choices_row count counts (rest / product counts) (rest % product counts),
-    )
+    grind (arith, choices_row count counts (rest / product counts) (rest % product counts))
 
 -- ---- every choice
 
@@ -240,13 +215,7 @@ place _ _ = 0
 pub at_its_place : (counts s : List ℕ) → IsChoice counts s
     → (place counts s < product counts) × (get_or (all_choices counts) (place counts s) [] ≡ s)
 at_its_place (count ∷ counts) (action ∷ others) h =
-    let r = at_its_place counts others h.1 in
-    let less : action - 1 < count = omega (arith, h.0.0, h.0.1) in
-    let row = choices_row count counts (action - 1) (place counts others) less r.0 in
-    let same : action - 1 + 1 ≡ action = omega (arith, h.0.0) in
-    let up : (action - 1 + 1) * product counts ≤ count * product counts =
-    mul-le-mul_right (product counts) (omega (arith, less)) in
-    (omega (arith, up, r.0), row ∙ (λ i. same i ∷ r.1 i))
+    search (rules, choices_row, mul-le-mul_right, at_its_place counts others h.1)
 at_its_place [] [] h = (omega arith, refl)
 at_its_place counts s h = grind arith
 
@@ -337,13 +306,7 @@ module _ (g : Game) (game : IsGame g) where
       let known = (set_is g game key set is).player in
       let k = key.player - 1 in
       let player : k + 1 ≡ key.player = omega arith in
-      let less : k < length all =
-      omega (
-        arith,
-        known,
-        AllZip-long _ all (players_of g) h,
-        length-numbers_from 1 (length g.players),
-      ) in
+      let less : k < length all = grind (arith, AllZip-long, length-numbers_from) in
       let his = rw player at (zip_counted _ [] all (length g.players) h k less) in
       grind (arith, known, k, player, less, his, his_actions, strategy_before)
 
