@@ -71,11 +71,7 @@ module _ (g : Game) (game : IsGame g) (choices : SetKey → ℕ) (player : ℕ) 
         → come (plays_from n 1 ts) ≡ list_any test (beneath own))
         → come (plays (branch n ts))
         ≡ list_any test (stop_at g n 0 ∷ option_map_or beneath o [])
-    node_comes_by n none None beneath at c below = grind (arith, tells n)
-    node_comes_by n none (Some own) beneath at c below = grind (arith, some_child)
-    node_comes_by n (more t ts) None beneath at c below = absurd (omega (arith, c))
-    node_comes_by n (more t ts) (Some own) beneath at c below =
-        grind (arith, list_any-append, any_here)
+    node_comes_by n ts o beneath at c below = grind (arith, some_child, list_any-append, any_here)
 
     mutual
       comes_in : (t : Tree Node) → AllByRecursion (HasChildren g) (flatten t)
@@ -114,10 +110,7 @@ module _ (g : Game) (game : IsGame g) (choices : SetKey → ℕ) (player : ℕ) 
         → option_map (λ set. length set.actions) (set_at g own) ≡ Some (count ts)
         → is_here n ≡ false → come (plays_from n 1 ts) ≡ is_used (flatten_all ts))
         → come (plays (branch n ts)) ≡ is_used (flatten (branch n ts))
-    node_where n none None at c below = grind arith
-    node_where n none (Some own) at c below = grind (arith, some_child)
-    node_where n (more t ts) None at c below = absurd (omega (arith, c))
-    node_where n (more t ts) (Some own) at c below = grind (arith, list_any-append, any_here)
+    node_where n ts o at c below = grind (arith, some_child, list_any-append, any_here)
 
     mutual
       comes_where : (t : Tree Node) → AllByRecursion (HasChildren g) (flatten t)
@@ -340,7 +333,4 @@ module _ (g : Game) (game : IsGame g) (spellable : IsSpellable g) (player : ℕ)
       (λ key. if is_relevant g (chosen s) key then Some (chosen s key) else None)
       (λ key. if is_relevant g (chosen t) key then Some (chosen t key) else None)
       (player_keys g player)
-      (λ key i. shown_same (is_relevant g (chosen s) key) (is_relevant g (chosen t) key)
-      (chosen s key) (chosen t key) (relevant_too s t hs alike key (own_set g player key i).3)
-      (λ r. (relevant_too t s ht (λ play j. sym (alike play j)) key (own_set g player key i).3
-      r).0))
+      (grind (arith, shown_same, relevant_too, own_set))

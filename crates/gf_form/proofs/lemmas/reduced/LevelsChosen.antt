@@ -85,14 +85,7 @@ module _ (step action : ℕ) (visits others rest : List Visit) (free start count
 
     none_between : list_any counts (take start others) ≡ false
     none_between =
-        grind (
-          arith,
-          false_from_ne_true,
-          Any-from_list_any,
-          length-take,
-          get_or-take,
-          others_demand,
-        )
+        grind (arith, Any-from_list_any, length-take, get_or-take, others_demand)
 
     none_after : list_any counts (drop count rest) ≡ false
     none_after =
@@ -154,26 +147,14 @@ module _ (step action : ℕ) (from : Level) (parts : Parts) (left : Level)
       → Adds v left next → IsPartly step action from rest next
   one_taken v rest next takes added = record {
     counted = added.counted ∙ h.counted;
-    adds = λ place steps choices inside positive.
-        grind (
-          arith,
-          h.adds place steps choices inside positive,
-          added.adds place steps choices (omega (arith, inside, h.counted)) positive,
-          takes.taken (is_met_on place steps choices),
-        );
+    adds = grind arith;
     last = v.demands;
     before = added.ordered h.last (takes.ordered h.last h.after).0 h.before;
     after = (takes.ordered h.last h.after).1;
   }
 
   pub all_taken : AreTaken parts → IsChosen step action from left
-  all_taken none place steps choices inside positive =
-      grind (
-        arith,
-        or-false,
-        h.adds place steps choices inside positive,
-        none (is_met_on place steps choices),
-      )
+  all_taken none place steps choices inside positive = grind arith
 
 -- ---- marks
 

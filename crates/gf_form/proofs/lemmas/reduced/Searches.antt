@@ -184,11 +184,8 @@ digit_there p (suc (suc n) ∷ counts) (suc k) less several =
     let later = digit_there (p + 1) counts k (omega (arith, less)) several in
     (suc later.0, omega (arith, later.1), omega (arith, later.2))
 digit_there p (n ∷ counts) (suc k) less several =
-    let later = digit_there (p + 1) counts k (omega (arith, less)) several in
-    (later.0, later.1, omega (arith, later.2))
-digit_there p (suc (suc n) ∷ counts) zero less several = (0, omega arith, omega arith)
-digit_there p counts zero less several = absurd (grind arith)
-digit_there p [] (suc k) less several = absurd (omega (arith, less))
+    grind (arith, digit_there (p + 1) counts k (omega (arith, less)) several)
+digit_there p counts k less several = grind arith
 
 -- its set is one of the player's
 pub digit_inside : (p : ℕ) (counts : List ℕ) (j : ℕ) → j < length (digits_from p counts)
@@ -283,15 +280,7 @@ module _ {p : Player} (is : IsPlayer p) where
       last_firsts none all_met n from to =
           let end : length digits ≤ depth =
           omega (arith, ap length (below.rest ∙ none), length-drop depth digits) in
-          settled_first depth n (within_all n to) (λ j early.
-          let inside : j < depth = omega (arith, early, end) in
-          below.tells n j from to early
-          ∙ ap (λ (ds : List OwnDigit).
-          is_left j (steps_to ds) (choices_at g p.number ds n) level) none
-          ∙ left_all j level
-          ∙ sym (marks.marked j (omega (arith, early, below.levelled.counted)))
-          ∙ sym (get_or-take depth met j false inside)
-          ∙ all_met j (omega (arith, inside, taken)))
+          settled_first depth n (within_all n to) (grind (arith, left_all, get_or-take, taken))
 
   -- all are found if only the first action was tried at a digit whose set cannot be met
   pub all_found : {d : OwnDigit} {faster : List OwnDigit} {level : Level}

@@ -94,13 +94,7 @@ module _ (g : Game) (game : IsGame g) (player : ℕ) where
         (picked counts counts) (picked counts strategy)
     own_digits_are =
         are_digits g owns _ _ counts strategy fits wide (λ key none. grind arith) choice_is
-        (λ key set is his. let here = own_among key set is his in record {
-          place = here.place;
-          within = rw length-map here.within;
-          step_is = grind (arith, are, said all key set is his);
-          count_is = here.count;
-          choice_is = sym (said strategy key set is his);
-        })
+        (λ key set is his. grind (arith, length-map, said, choice_is, own_among key set is his))
 
   -- ---- the nodes to which the player's choices come
 
@@ -128,7 +122,6 @@ module _ (g : Game) (game : IsGame g) (player : ℕ) where
     relevant = λ strategy place key chosen there.
         let own = own_steps counts in
         let choices = picked counts strategy in
-        let found = same (is_met_on place own choices) in
         let met = all_met player place own choices
         (descent g (demanding visit_handing g (own_step g player all)) 0 g.tree) in
         let left = tree_kept (own_digits_are all are fits strategy chosen) visit_handing
