@@ -6,8 +6,8 @@ use Common.{InformationSet, AreStrategies, action_counts, slice_get-map, AllZip-
 use Common.{ArePositive, at_position, player_keys, player_sets, All-get_or, get_or-map, length-map}
 use Common.{option_map, players_of, strategies, AreCounts, Described, mul_above, mul_assoc, add-one}
 use Common.{of_filter, slice_get, unwrap_or, used_sets, entry_at, same_set, take-suc, product, Game}
-use Common.{Counts, Global, IsGame, Option, SetKey, filter, get_or, has_at, length, set_at, set_of}
-use Common.{IsSet, arith, subst, List, None, Some, refl, take, zero, ◌++◌, ◌==◌, map, suc, sym, ◌*◌}
+use Common.{Counts, Global, IsGame, SetKey, filter, get_or, has_at, length, set_at, set_of}
+use Common.{IsSet, arith, subst, List, Some, take, zero, ◌++◌, ◌==◌, map, suc, sym, ◌*◌}
 use Common.{◌+◌, ◌<◌, ◌∙◌, ◌∷◌, ◌≡◌, ◌≤◌, [], ap, ℕ}
 use Rattle.gf_form.proofs.lemmas.rows.Digits.{product_joined}
 pub use Rattle.std.proofs.lemmas.List.{take_all as take_past}
@@ -74,16 +74,7 @@ pub count_there : (g : Game) → IsGame g → (player position : ℕ)
     ≡ option_and_then (λ number. option_map (λ set. length set.actions)
     (set_at g (set_of player number)))
     (at_position (map (λ key. key.number) (player_keys g player)) position)
-count_there g game player zero = refl
-count_there g game player (suc k) =
-    grind (arith, slice_get-map, by (slice_get (player_sets g player) k) refl)
-  where
-    by : (o : Option Known) → slice_get (player_sets g player) k ≡ o
-        → option_map (λ (s : Known). length s.description.actions) o
-        ≡ option_and_then (λ (s : Known). option_map (λ (set : InformationSet). length set.actions)
-        (set_at g (set_of player s.key.number))) o
-    by None is = refl
-    by (Some s) is = grind (arith, his_set g game player s k is)
+count_there g game player k = grind (arith, slice_get-map, his_set)
 
 pub choice_by_places : (choice counts : List ℕ) → length choice ≡ length counts
     → ((k : ℕ) → k < length choice

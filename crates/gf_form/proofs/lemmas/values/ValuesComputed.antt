@@ -157,12 +157,11 @@ node_agrees : (own : Ratio) → IsFraction own → (o : Option SetKey) (P : Rati
     → (v : Ratio) → Agree (λ v. MatchOption o (v ≡ own)
     (λ key. (x : Ratio) × MatchBool (key.player == 0) (P x) (Q key x) × AddsTo own x v))
     (value_over own o (λ key. if key.player == 0 then c else d key)) v
-node_agrees own f None P Q c d p q v =
-    (λ h. subst IsFraction (sym h) f, (λ h. ap Some (sym h), λ h. cc))
 node_agrees own f (Some key) P Q c d p q v =
     plus_agrees own f (λ x. MatchBool (key.player == 0) (P x) (Q key x))
     (if key.player == 0 then c else d key)
     (λ x. either (key.player == 0) P (Q key) c (d key) x (p x) (q key x)) v
+node_agrees own f o P Q c d p q v = grind arith
 
 -- ---- the tree
 
@@ -252,9 +251,8 @@ module _ (x : Ratio) (f : IsFraction x) where
 
 pub fraction_at : (row : List Ratio) (k : ℕ) → AllByRecursion IsFraction row
     → IsFraction (at_place row k)
-fraction_at [] k h = grind (arith, zero_fraction)
-fraction_at (x ∷ row) zero h = h.0
 fraction_at (x ∷ row) (suc k) h = fraction_at row k h.1
+fraction_at row k h = grind (arith, zero_fraction)
 
 all_set : (row : List Ratio) (i : ℕ) (x : Ratio) → AllByRecursion IsFraction row → IsFraction x
     → AllByRecursion IsFraction (set row i x)

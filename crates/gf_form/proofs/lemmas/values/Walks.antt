@@ -13,7 +13,7 @@ use Common.{cases_lt, drop-nil, eqb-true, position, trees_in, trees_of, ArePaid,
 use Common.{game_of, list_of, plus_of, reverse, tree_at, tree_of, Global, IsGame, Option, SetKey}
 use Common.{branch, eq-eqb, get_or, has_at, length, nat_eq, row_at, set_at, sum_by, Ratio, Trees}
 use Common.{arith, value, Game, List, Node, None, Some, Tree, drop, more, none, paid, refl, zero}
-use Common.{◌++◌, ◌==◌, Vec, inl, inr, map, suc, sym, ◌+◌, ◌<◌, ◌∙◌, ◌∷◌, ◌≡◌, ◌≤◌, [], ap}
+use Common.{◌++◌, ◌==◌, Vec, inl, inr, map, suc, sym, ◌+◌, ◌<◌, ◌∙◌, ◌∷◌, ◌≡◌, ◌≤◌, [], ap, rules}
 use Rattle.std.proofs.lemmas.List.Quantifiers.{position-Some}
 use Rattle.gf_form.proofs.lemmas.values.ValuesComputed.{none_stays, payoffs_of}
 use Rattle.gf_form.proofs.lemmas.strategies.Chosen.{each_described}
@@ -210,8 +210,7 @@ left_more xs k x there =
 
 pub none_left : {A : Type 0} (xs : List A) (k : ℕ) → slice_get xs k ≡ None → drop k xs ≡ []
 none_left (y ∷ xs) (suc k) past = none_left xs k past
-none_left [] k past = drop-nil k
-none_left (y ∷ xs) zero past = absurd (grind arith)
+none_left xs k past = grind (arith, drop-nil)
 
 -- ---- sizes
 
@@ -262,7 +261,6 @@ one_more : (g : Game) (trees : List (Tree Node)) (firsts : List ℕ) → length 
     (firsts ++ length trees ∷ [])
 one_more g trees firsts less h at within k child is =
     let n = length firsts in
-    let ts = child_trees (get_or trees n g.tree) in
     grind (arith, cases_lt, get_or_append_left, still_there, length-append, get_or-append_seam, behind)
 
 -- a game's nodes, those before one with their children
@@ -279,20 +277,13 @@ sizes trees = sum_by (λ t. length (flatten t)) trees
 
 sizes_of : (ts : List (Tree Node)) → sizes ts ≡ length (flatten_all (trees_of ts))
 sizes_of [] = refl
-sizes_of (t ∷ ts) =
-    omega (
-      arith,
-      sum_by-cons (λ (t : Tree Node). length (flatten t)) t ts,
-      length-append (flatten t) (flatten_all (trees_of ts)),
-      sizes_of ts,
-    )
+sizes_of (t ∷ ts) = search (rules, sum_by-cons, length-append, sizes_of ts)
 
 less_left : (trees : List (Tree Node)) (n : ℕ) (d : Tree Node) → n < length trees
     → sizes (drop (n + 1) (trees ++ child_trees (get_or trees n d))) < sizes (drop n trees)
 less_left trees n d less =
     let t = get_or trees n d in
     let size = λ (t : Tree Node). length (flatten t) in
-    let next : n + 1 ≡ suc n = omega arith in
     let rest = drop-append-le (suc n) trees (child_trees t) (omega (arith, less)) in
     let both = sum_by-append size (drop (suc n) trees) (child_trees t) in
     let own = sum_by-cons size t (drop (suc n) trees) in
@@ -312,10 +303,7 @@ module _ (g : Game) (branches next : List Branch) (firsts : List ℕ) (node : Br
   pub list_more : (AreOf (game_of node) branches → AreOf (game_of node) next)
       → AreListed g branches firsts → AreListed g next (firsts ++ length branches ∷ [])
   list_more games h =
-      let its = ap game_of is
-      ∙ all_at (λ (b : Branch). game_of b ≡ g) branches (length firsts) node h.games less in
-      let more = one_more g (map tree_of branches) firsts (omega (arith, less, counted)) h.children in
-      grind (arith, still_there, counted, length-map, length-append, there)
+      grind (arith, all_at, one_more, counted, still_there, length-map, length-append, there)
 
   pub sizes_fall : (on : List ℕ) → length on ≡ length firsts + 1
       → sizes (drop (length on) (map tree_of next))
