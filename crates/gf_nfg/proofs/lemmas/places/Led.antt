@@ -20,10 +20,8 @@ use Rattle.gf_nfg.proofs.lemmas.tables.Meaning.{length-entries}
 pub is_reader : IsReader step finish start IsStrategicFile
 is_reader = record {
   is_file = λ ts r e. (table_of r, (sentence_found ts r e).sentence);
-  is_read = λ ts file. let p = sentence_again ts file.0 file.1 in (p.content, p.read);
-  ends = λ ts s h.
-      let e = ends s.position s.content in
-      (e.more, e.read, e.goes_on, λ before. e.spelled);
+  is_read = λ ts file. grind (arith, sentence_again ts file.0 file.1);
+  ends = λ ts s h. grind (arith, ends s.position s.content);
 }
 
 -- what all tokens mean
@@ -77,29 +75,18 @@ pub taken_within : (s after : State) (t : Token) → step s t ≡ Ok after → I
     → taken s t ≡ Ok after
 taken_within s after t e few = grind (arith, past_is s, step_grows s, nat_tests)
 
--- what is taken, the machine goes on with
-step_taken : (s after : State) (t : Token) → IsWithin s → taken s t ≡ Ok after
-    → (step s t ≡ Ok after) × IsWithin after
-step_taken s after t few e = grind (arith, past_is s, nat_tests)
-
 -- where tokens lead that do not pass it
 pub stays : (ts : List Token) (s after : State) → IsWithin s → any_format.walk taken s ts ≡ Ok after
     → (walk s ts ≡ Ok after) × IsWithin after
 stays [] s after few e = let same : s ≡ after = cc in (e, subst IsWithin same few)
-stays (t ∷ ts) s after few e =
-    let h = then_ok (taken s t) (λ x. any_format.walk taken x ts) after e in
-    let k = step_taken s h.0 t few h.1 in
-    let m = stays ts h.0 after k.1 h.2 in
-    (rw k.0 m.0, m.1)
+stays (t ∷ ts) s after few e = grind (arith, then_ok, any_format.walk, stays ts)
 
 pub read_stays : (ts : List Token) (c : Content) → any_format.run taken finish start ts ≡ Ok c
     → (run start ts ≡ Ok c) × (c.profiles ≤ profile_limit)
 read_stays ts c e =
     let m = run_split taken finish ts [] start c (cc (append-nil ts, e)) in
     let k = stays ts start m.0 (omega arith) m.1 in
-    let whole = run_whole step finish ts start m.0 k.0 in
-    let few = k.1 in
-    grind (arith, m.2)
+    grind (arith, m.2, run_whole)
 
 -- after one of these no list is open
 pub settles : (s after : State) (t : Token) → step s t ≡ Ok after → IsBareOrClosing t
@@ -121,16 +108,13 @@ pub takes : (ts : List Token) (s after : State) → walk s ts ≡ Ok after → I
 takes [] s after e few = e
 takes (t ∷ ts) s after e few =
     let h = then_ok (step s t) (λ x. walk x ts) after e in
-    let less = walk_grows ts h.0 after h.2 in
-    rw (taken_within s h.0 t h.1 (omega (arith, few, less))) (takes ts h.0 after h.2 few)
+    grind (arith, walk_grows ts h.0 after h.2, taken_within, takes ts)
 
 -- nor does a run that ends well
 run_grows : (ts : List Token) (s : State) (r : Content) → run s ts ≡ Ok r
     → s.content.profiles ≤ r.profiles
 run_grows ts s r e =
-    let h = run_split step finish ts [] s r (cc (e, append-nil ts)) in
-    let less = walk_grows ts s h.0 h.1 in
-    grind arith
+    grind (arith, run_split step finish ts [] s r, append-nil ts, walk_grows ts s)
 
 -- a file has the profiles that were read
 size_read : (ts : List Token) (r : Content) → run start ts ≡ Ok r
@@ -142,8 +126,7 @@ pub read_past : (ts : List Token) (s : State) → Leads ts s → (more : List To
 read_past ts s h more t sentence =
     let p = sentence_again (ts ++ more) t sentence in
     let run = sym (run_after step finish ts more start s h) ∙ p.read in
-    let grown = run_grows more s p.content run in
-    grind (arith, size_read)
+    grind (arith, size_read, run_grows)
 
 pub begins_within : (ts : List Token) (s : State) → Leads ts s
     → reached s.position s.content.profiles ≤ profile_limit → BeginsWithinLimit ts

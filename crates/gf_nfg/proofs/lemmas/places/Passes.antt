@@ -3,9 +3,8 @@
 use Rattle.gf_nfg.proofs.Common.{BeginsPastLimit, IsBareOrClosing, IsLimitByFiles, IsLimitPlace}
 use Rattle.gf_nfg.proofs.Common.{List, Ok, Span, State, StaysWithinLimit, Token, append_assoc}
 use Rattle.gf_nfg.proofs.Common.{arith, cases_lt, inl, inr, profile_limit, refl, start, step, subst}
-use Rattle.gf_nfg.proofs.Common.{sym, tokens_of, ℕ, [], ◌++◌, ◌<◌, ◌∙◌, ◌∷◌, ◌≡◌, ◌≤◌, ◌↔◌}
+use Rattle.gf_nfg.proofs.Common.{sym, tokens_of, ℕ, [], ◌++◌, ◌<◌, ◌∙◌, ◌∷◌, ◌≡◌, ◌↔◌}
 use Rattle.gf_nfg.specs.LimitPlace.{PassesLimit}
-use Rattle.gf_nfg.specs.Place.{Place}
 use Rattle.gf_nfg.proofs.lemmas.places.Led.{IsWithin, begins_within, is_reader, makes_more}
 use Rattle.gf_nfg.proofs.lemmas.places.Led.{read_past, settles, stays_within}
 use Rattle.gf_nfg.proofs.lemmas.places.Rows.{follows}
@@ -28,18 +27,7 @@ pub machine_passes : (ts : List Token) (t : Token) → PassesLimit ts t → Pass
 machine_passes ts t h =
     let a = walks follows ts h.0 h.2 in
     let b = walks follows (ts ++ t ∷ []) h.1 h.3 in
-    let m = walk_split step ts (t ∷ []) start b.0 b.1 in
-    let n = then_ok (step m.0 t) (λ x. walk x []) b.0 m.2 in
-    let same = ok_is a.0 m.0 (sym a.1 ∙ m.1) in
-    record {
-      mid = m.0;
-      after = b.0;
-      leads = m.1;
-      steps = n.1 ∙ n.2;
-      within = subst IsWithin same
-          (subst (λ (x : Place). x.known.profiles ≤ profile_limit) (sym a.2) h.4);
-      over = subst (λ (x : Place). profile_limit < x.known.profiles) (sym b.2) h.5;
-    }
+    let m = walk_split step ts (t ∷ []) start b.0 b.1 in grind arith
 
 pub places_pass : (ts : List Token) (t : Token) → Passes ts t → PassesLimit ts t
 places_pass ts t h = (

@@ -3,7 +3,7 @@ use Rattle.gf_nfg.proofs.Common
 use Common.{false, true, with_choices, with_payoffs, with_labels, gcd_within, with_count, Position}
 use Common.{with_title, lowest_of, number_of, count_of, index_of, Content, Closing, Opening, length}
 use Common.{mul-one, le-leb, Ratio, whole, State, Comma, Token, arith, codes, step, Bare, Text, run}
-use Common.{IsSpelled, List, Some, refl, zero, pos, suc, ◌*◌, ◌+◌, ◌∙◌, ◌∷◌, ◌≡◌, at, Ok, [], p, ℕ}
+use Common.{IsSpelled, List, Some, refl, zero, pos, suc, ◌*◌, ◌+◌, ◌∷◌, ◌≡◌, at, Ok, [], p, ℕ}
 use Rattle.gf_token.proofs.Offered.{AllSpelled}
 
 -- it can be completed, to this many profiles, by tokens that can be spelled
@@ -31,13 +31,7 @@ by t h e k = record {
 
 -- with one strategy more
 by_one : {s : State} (n : ℕ) → Ends s (n * 1) → Ends s n
-by_one n k = record {
-  more = k.more;
-  read = k.read;
-  goes_on = k.goes_on;
-  count = k.count ∙ mul-one n;
-  spelled = k.spelled;
-}
+by_one n k = grind (arith, mul-one)
 
 abbrev pub zero_text : List ℕ
 zero_text = codes "0"

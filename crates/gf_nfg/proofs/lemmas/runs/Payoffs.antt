@@ -84,8 +84,7 @@ pub braces_found : (ts : List Token) (due outcomes : ℕ) (c r : Content)
 braces_found ts due outcomes c r e =
     let h = groups_found IsPayoffInBraces (braced_due outcomes) with_one (one_braced outcomes) ts
     due c r e in
-    let k = brace_found h.1 outcomes (all_in with_one c h.2) r h.6 in
-    grind (arith, run, all_payoffs)
+    grind (arith, run, all_payoffs, brace_found, all_in)
 
 pub braces_again : (numbers : List Ratio) (inner rest : List Token) (outcomes : ℕ) (c : Content)
     → Each IsPayoffInBraces inner numbers → (may : Bool)
@@ -199,8 +198,7 @@ rows_each size zero numbers tokens e h = absurd (grind arith)
 pub rows_joined : (rs : List (List Ratio)) (tokens : List Token) → Each (Each IsPayoff) tokens rs
     → Each IsPayoff tokens (joined rs)
 rows_joined [] tokens h = h
-rows_joined (row ∷ rs) tokens h =
-    rw h.2 (each_both IsPayoff row (joined rs) h.0 h.1 h.3 (rows_joined rs h.1 h.4))
+rows_joined (row ∷ rs) tokens h = grind (arith, each_both, joined, rows_joined rs h.1 h.4)
 
 -- ---- the outcome version
 
@@ -236,8 +234,6 @@ module _ (players : ℕ) (outcomes : List (List Ratio))
 
   pub choices_chosen : (rs : List (List Ratio)) (tokens : List Token)
       → Each (IsOutcomeNumber players outcomes) tokens rs → Chosen tokens rs
-  choices_chosen [] tokens h =
-      record { choices = []; each = h; known = tt; rows = refl; count = refl }
   choices_chosen (row ∷ rs) tokens h =
       let k = h.3.1 in
       let p = pays_row k row h.3.4 in
@@ -249,3 +245,4 @@ module _ (players : ℕ) (outcomes : List (List Ratio))
         rows = (λ i. p.1 i ∷ more.rows i);
         count = ap suc more.count;
       }
+  choices_chosen rs tokens h = grind arith

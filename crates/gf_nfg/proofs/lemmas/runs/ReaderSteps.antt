@@ -6,8 +6,8 @@ use Common.{Position, StandsAt, Telling, Content, Heading, Opening, read_on, Ans
 use Common.{Reader, Result, answer, length, lexeme, Fails, Fault, arith, heard, subst, Goes, List}
 use Common.{Span, Text, Told, false, refl, Err, sym, ◌-◌, ◌<◌, ◌∙◌, ◌∷◌, ◌≡◌, at, Ok, [], ap, p, ℕ}
 use Rattle.gf_nfg.proofs.lemmas.places.Judged.{carried, lacks_memory}
-pub use Rattle.gf_token.proofs.Offered.{goes_back, fails_back as ends_back}
 use Rattle.gf_nfg.specs.declared.receive.Version.{Version}
+pub use Rattle.gf_token.proofs.Offered.{goes_back, fails_back as ends_back}
 
 -- ---- answers carried back
 

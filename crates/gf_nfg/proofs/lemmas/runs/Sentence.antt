@@ -44,10 +44,7 @@ pub record Body (body : List Token) (c r : Content) : Type 0 where
 flat_body : (ts : List Token) (c r : Content)
     → run (at (p.FlatPayoffs (length c.players * c.profiles)) (filled c [] [])) ts ≡ Ok r
     → Body ts c r
-flat_body ts c r e =
-    let h = flat_found ts (length c.players * c.profiles) (filled c [] []) r e in
-    let each = rows_each (length c.players) c.profiles h.0 ts h.2 h.1 in
-    record { payoffs = h.0; choices = []; got = h.3; has_rows = h.2; is_body = grind arith }
+flat_body ts c r e = grind (arith, flat_found, rows_each)
 
 outcome_body : (ts : List Token) (c r : Content) → 0 < c.profiles
     → run (at (p.InOutcomes 0) (filled c [] [])) ts ≡ Ok r → Body (Opening ∷ ts) c r
@@ -58,13 +55,7 @@ outcome_body ts c r above e =
     let some : 0 < length k.choices = omega (arith, k.count, above) in
     let full = outcomes_full (length c.players) h.2 h.0 h.4 in
     let size = length-joined_rows (length c.players) h.2 full in
-    record {
-      payoffs = joined h.2;
-      choices = k.choices;
-      got = k.got;
-      has_rows = grind arith;
-      is_body = grind (arith, append_assoc, rows_chosen, choices_pay);
-    }
+    grind (arith, joined, append_assoc, rows_chosen, choices_pay)
 
 body_found : (ts : List Token) (c r : Content) → 0 < c.profiles
     → run (at (p.AfterComment (length c.players * c.profiles)) (filled c [] [])) ts ≡ Ok r
@@ -115,12 +106,7 @@ body_again body c rs above full count (inl each) =
     let goes : run (at (p.FlatPayoffs (length c.players * c.profiles)) (filled c [] [])) body
     ≡ Ok (filled c (joined rs) []) =
     cc (size, count, flat_again (joined rs) body (filled c [] []) all) in
-    record {
-      payoffs = joined rs;
-      choices = [];
-      means = cc (rows_again (length c.players) rs full);
-      goes_on = outcomes_may_come body _ _ _ goes;
-    }
+    grind (arith, rows_again, outcomes_may_come)
 body_again body c rs above full count (inr b) =
     let paid = outcomes_full (length c.players) b.outcomes b.list b.listed in
     let o = choices_chosen (length c.players) b.outcomes paid rs b.numbers b.chosen in
@@ -249,10 +235,7 @@ past_comment : (comment body : List Token) (said : List ℕ) (c : Content)
     → c ≡ filled (with_comment c []) [] []
     → run (strategies_end c) (comment ++ body)
     ≡ Ok (filled (with_comment c said) k.payoffs k.choices)
-past_comment comment body said c rs h k e =
-    let plain = comment_may_come body (length c.players * c.profiles)
-    (filled (with_comment c said) [] []) _ k.goes_on in
-    grind arith
+past_comment comment body said c rs h k e = grind (arith, comment_may_come)
 
 pub sentence_again : (ts : List Token) (t : Table) → Sentence ts t → Parts ts t
 sentence_again ts t s =
@@ -278,7 +261,4 @@ sentence_again ts t s =
 
 -- tokens mean one table at most
 pub one_table : (ts : List Token) (t u : Table) → Sentence ts t → Sentence ts u → t ≡ u
-one_table ts t u a b =
-    let x = sentence_again ts t a in
-    let y = sentence_again ts u b in
-    cc (x.read, y.read, x.means, y.means)
+one_table ts t u a b = grind (arith, sentence_again ts t a, sentence_again ts u b)

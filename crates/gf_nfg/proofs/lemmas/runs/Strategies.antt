@@ -73,8 +73,7 @@ players_found : (ts : List Token) (c r : Content) → run (at p.InPlayers c) ts 
     → (players : List (List ℕ)) × (rest : List Token) × (ts ≡ map Text players ++ Closing ∷ rest)
     × (run (at p.BeforeStrategies (with_players c players)) rest ≡ Ok r)
 players_found (Text label ∷ ts) c r e =
-    let h = players_found ts (with_players c (label ∷ [])) r e in
-    grind (arith, append_assoc, run)
+    grind (arith, append_assoc, players_found ts (with_players c (label ∷ [])) r e)
 players_found (Closing ∷ ts) c r e = ([], ts, refl, rw append-nil e)
 players_found _ c r e = absurd cc
 
@@ -95,8 +94,7 @@ pub record Heading (ts : List Token) (r : Content) : Type 0 where
 pub heading_found : (ts : List Token) (r : Content) → run start ts ≡ Ok r → Heading ts r
 heading_found (Bare format ∷ Bare version ∷ Bare letter ∷ Text title ∷ Opening ∷ ts) r e =
     let h = begun_found format version letter (Text title ∷ Opening ∷ ts) r e in
-    let g = players_found ts (with_title nothing title) r h.3 in
-    grind (arith, append_assoc, map)
+    grind (arith, append_assoc, map, players_found)
 heading_found _ r e = absurd (grind arith)
 
 -- ---- where each heading leads
@@ -233,8 +231,7 @@ read_by : (k : Kind) (ts : List Token) (due : ℕ) (c r : Content) → run (due_
 read_by k ts due c r e =
     let h = groups_found (IsSome k) (due_at k) (with_group k) (one_group k) ts due c r e in
     let each = each_both (IsGroup k) (λ labels. 0 < length labels) h.2 h.0 h.4 in
-    let z = closed_found k h.1 (all_in (with_group k) c h.2) r h.6 in
-    grind (arith, append_assoc, run, all_groups)
+    grind (arith, append_assoc, run, all_groups, closed_found)
 
 first_found : (ts : List Token) (due : ℕ) (c r : Content)
     → run (at (p.FirstStrategies due) c) ts ≡ Ok r → Read (Opening ∷ ts) due c r
@@ -263,10 +260,9 @@ group_walk ByCounts due c group labels h some =
     let read = count_again h.0 h.1 (omega (arith, some, same)) h.3 in
     grind arith
 group_walk ByLists due c group labels h some =
-    let texts = labels_walk labels due 0 c in
     let whole = walk_on step (Opening ∷ map Text labels) (Closing ∷ []) (due_at ByLists (suc due) c)
     (at (p.InList due (length labels)) (with_labels c labels)) in
-    grind arith
+    grind (arith, labels_walk)
 
 -- where groups of all players lead
 groups_walk : (k : Kind) (strategies : StrategyLists) (inner : List Token) (c : Content)
@@ -287,18 +283,12 @@ either_first : (k : Kind) (strategies : StrategyLists) (inner rest : List Token)
 either_first k [] inner rest c h = grind arith
 either_first k (labels ∷ strategies) inner rest c h = grind arith
 
-closed : (k : Kind) (rest : List Token) (c : Content)
-    → run (due_at k 0 c) (Closing ∷ rest) ≡ run (strategies_end c) rest
-closed k rest c = grind arith
-
 pub strategies_again : (k : Kind) (strategies : StrategyLists) (inner rest : List Token)
     (c : Content) → Each (IsGroup k) inner strategies → AllSome strategies
     → run (at (p.FirstStrategies (length strategies)) c) (inner ++ Closing ∷ rest)
     ≡ run (strategies_end (with_counts c (map length strategies) (labels_in k strategies))) rest
 strategies_again k strategies inner rest c h some =
-    let d = all_in (with_group k) c strategies in
     let goes = run_after step finish inner (Closing ∷ rest) _ _
     (groups_walk k strategies inner c h some) in
     let first = either_first k strategies inner rest c h in
-    first ∙ goes ∙ closed k rest d ∙ ap (λ (x : Content). run (strategies_end x) rest)
-    (all_groups k strategies c)
+    grind (arith, all_groups)

@@ -10,8 +10,7 @@ use Rattle.gf_nfg.proofs.lemmas.tables.Rows.{entries_again}
 pub same_more : {A : Type 0} (xs ys : List A) (k : ℕ) (x y : A) → slice_get xs k ≡ Some x
     → slice_get ys k ≡ Some y → x ≡ y → take k xs ≡ take k ys → take (k + 1) xs ≡ take (k + 1) ys
 same_more xs ys k x y h g e s =
-    take_more_same xs ys k x (slice_get_within xs k x h) (slice_get_within ys k y g) s
-    (get_or_from_slice_get xs k x x h ∙ e ∙ sym (get_or_from_slice_get ys k y x g))
+    grind (arith, take_more_same xs ys k x, slice_get_within, get_or_from_slice_get)
 
 -- what a test of two fractions says
 pub Decides-ratio : (a b : Ratio) → Decides (int_eq a.num b.num && nat_eq a.den b.den) (a ≡ b)

@@ -2,18 +2,15 @@
 use Rattle.gf_nfg.proofs.Common
 use Common.{slice_get-get_or, range_with_len, slice_get-map, get_or_past, slice_get, ShareRows}
 use Common.{AreShared, cases_lt, LeadBack, length, get_or, all_at, arith, Ratio, List, take, Some}
-use Common.{sym, ◌≡◌, ◌++◌, ◌+◌, ◌<◌, ◌∙◌, ℕ, []}
+use Common.{◌≡◌, ◌++◌, ◌+◌, ◌<◌, ℕ, []}
 use Rattle.std.proofs.lemmas.List.{get_or_append_left, get_or-append-add}
 use Rattle.std.proofs.lemmas.List.FromFn.{get_or-range_with_len, length-range_with_len}
 use Rattle.gf_nfg.proofs.lemmas.tables.Agreement.{same_more}
 
 -- ---- each place in a class of its own
 
-alone : (n place : ℕ) → place < n → get_or (range_with_len 0 n) place 0 ≡ place
-alone n place h = let e = get_or-range_with_len 0 n place 0 h in omega (arith, e)
-
 pub back_begun : (n : ℕ) → LeadBack (range_with_len 0 n)
-back_begun n = grind (arith, cases_lt, alone, get_or_past, length-range_with_len)
+back_begun n = grind (arith, cases_lt, get_or_past, length-range_with_len, get_or-range_with_len)
 
 -- a place on the way to a root
 pub record IsOnWay (begin parents : List ℕ) (place at : ℕ) : Type 0 where
@@ -38,8 +35,7 @@ pub record IsCompared (a b xs ys : List (List Ratio)) (parents : List ℕ) (at :
 pub row_at : (all rows : List (List Ratio)) (numbers : List ℕ) (at : ℕ)
     → AreShared all rows numbers → at < length numbers → (get_or numbers at 0 < length rows)
     × (slice_get all at ≡ Some (get_or rows (get_or numbers at 0) []))
-row_at all rows numbers at shared h =
-    grind (arith, slice_get-get_or, slice_get-map, all_at)
+row_at all rows numbers at shared h = grind (arith, slice_get-get_or, slice_get-map, all_at)
 
 pub rows_in : (a b : List (List Ratio)) (m n : ℕ) → m < length a
     → (row_in a b m ≡ get_or a m []) × (row_in a b (length a + n) ≡ get_or b n [])
@@ -53,8 +49,4 @@ pub compared_more : (a b xs ys : List (List Ratio)) (old parents : List ℕ) (at
     → ShareRows row parents) → IsCompared a b xs ys parents (at + 1)
 compared_more a b xs ys old parents at m n done h left right same size rows =
     let both = rows_in a b m n h in
-    record {
-      places = size ∙ done.places;
-      rows = rows (row_in a b) (both.0 ∙ same ∙ sym both.1) done.rows;
-      same = same_more xs ys at (get_or a m []) (get_or b n []) left right same done.same;
-    }
+    grind (arith, same_more xs ys at (get_or a m []) (get_or b n []), rows (row_in a b))

@@ -3,9 +3,9 @@ use Rattle.gf_nfg.proofs.Common.{get_or_from_slice_get, is_spelling_after, slice
 use Rattle.gf_nfg.proofs.Common.{join_with_byte, append_assoc, AreSpellings, length-drop, slice_get}
 use Rattle.gf_nfg.proofs.Common.{length-take, append-nil, and_parts, take_more, label_of, and_from}
 use Rattle.gf_nfg.proofs.Common.{IsLabel, RisesTo, length, arith, Label, true, List, ◌++◌, Some, ap}
-use Rattle.gf_nfg.proofs.Common.{take, drop, refl, ◌≡◌, ◌+◌, ◌∷◌, map, ◌∙◌, sym, sum, [], ℕ}
-use Rattle.gf_nfg.specs.TableParts.{dashed}
+use Rattle.gf_nfg.proofs.Common.{take, refl, ◌≡◌, ◌+◌, ◌∷◌, map, ◌∙◌, sym, sum, [], ℕ}
 use Rattle.gf_nfg.proofs.Common.{◌-◌, ◌<◌, ◌^◌, ◌==◌, decimal, false, nat_tests, numbers_from}
+use Rattle.gf_nfg.specs.TableParts.{dashed}
 use Rattle.std.specs.Str.Parse.{AllDigits}
 use Rattle.std.proofs.lemmas.Fmt.{decimal_is_IsNumeral_wide}
 use Rattle.gf_nfg.proofs.lemmas.tables.Lists.{sum-cons}
@@ -19,8 +19,7 @@ pieces_size : {A : Type 0} (from : ℕ) (ends : List ℕ) (items : List A)
     → from + sum (map length (pieces from ends items)) ≡ length items
 pieces_size from [] items h = omega (arith, h)
 pieces_size from (end ∷ ends) items h =
-    let more = pieces_size end ends items h.1 in
-    grind (arith, length-take, drop, length-drop, rises_within, sum-cons, take)
+    grind (arith, length-take, length-drop, rises_within, sum-cons, pieces_size end ends items h.1)
 
 pub labels_size : (ends bytes : List ℕ) → RisesTo (length bytes) 0 ends
     → sum (map length (pieces 0 ends bytes)) ≡ length bytes
@@ -74,8 +73,7 @@ pub ruleset one_label_more = (append_assoc, one_taken_at)
 digits_label : (before : ℕ) (bytes : List ℕ) → (before == 92) ≡ false → AllDigits 10 bytes
     → is_spelling_after before bytes ≡ true
 digits_label before [] e h = rw e refl
-digits_label before (b ∷ bytes) e h =
-    let digit = h.0 in grind (arith, nat_tests, digits_label b bytes)
+digits_label before (b ∷ bytes) e h = grind (arith, nat_tests, digits_label b bytes)
 
 -- a number is the spelling of a label
 pub decimal_label : (n : ℕ) → n < 10 ^ 64 → IsLabel (decimal n)

@@ -4,7 +4,7 @@ use Rattle.gf_nfg.proofs.Common
 use Common.{IsWithinLimit, content_with, HasToldTable, SpellsTable, table_with, IsComplete, IsTable}
 use Common.{content_in, content_of, append-nil, length-map, IsCompared, MeansTable, slice_get, List}
 use Common.{SameTable, mul_comm, frame_in, table_of, named_by, frame_by, Content, Payoffs, Heading}
-use Common.{length, IsTrue, subst, arith, Ratio, Table, Frame, ◌++◌, rows, Some, Bool, Names, true}
+use Common.{length, IsTrue, arith, Ratio, Table, Frame, ◌++◌, rows, Some, Bool, Names, true}
 use Common.{◌==◌, drop, ◌≡◌, ◌<◌, ◌+◌, ◌∷◌, sym, ◌∙◌, ◌↔◌, [], ap, ℕ}
 use Rattle.gf_nfg.specs.inner.ListedTable.{IsListed, IsListing, listed}
 use Rattle.gf_nfg.specs.declared.listed.Body.{Body}
@@ -48,24 +48,17 @@ module _ (bytes : List ℕ) (heading : Heading) (l : Listing)
       → l.kept.numbers.items ≡ [] → IsListed (body frame)
   in_turn_listed frame is none =
       let same = in_turn_told frame is none in
-      record {
-        is_table = subst IsTable (sym same) (is_table told h.means.complete);
-        full = ap (λ (t : Table). joined (rows t)) same
-            ∙ payoffs_told told h.means.complete (none_chosen none) ∙ sym h.holding.payoffs_are;
-      }
+      let told_is = payoffs_told told h.means.complete (none_chosen none) in
+      grind (arith, is_table told h.means.complete)
 
   pub in_turn_means : (frame : Frame) → frame ≡ frame_in (content_in heading)
       → l.kept.numbers.items ≡ []
       → SpellsTable bytes (listed (body frame)) × IsWithinLimit (listed (body frame))
-  in_turn_means frame is none =
-      subst (λ t. SpellsTable bytes t × IsWithinLimit t) (sym (in_turn_told frame is none))
-      (h.means.spelled, h.means.within)
+  in_turn_means frame is none = grind (arith, in_turn_told frame is none)
 
   pub parts_told : ¬ (l.kept.numbers.items ≡ [])
       → MeansTable bytes (content_of (record { heading = heading; kept = l.kept }))
-  parts_told some =
-      let same : told ≡ content_of (record { heading = heading; kept = l.kept }) = grind arith in
-      subst (MeansTable bytes) same h.means
+  parts_told some = grind arith
 
 -- ---- the same table by its frame and rows
 
@@ -127,17 +120,14 @@ module _ (t : Table) (bytes : List ℕ) (heading : Heading) (c : Comparison)
       → n ≡ frame_in (content_in heading) → c.version ≡ Payoffs
       → SameTable (named_by names t) (named_by names (table_of other))
       ↔ ((frame_by names m ≡ frame_by names n) × (IsTrue c.same × (c.left ≡ [])))
-  told_compared names m n ht mine theirs version = rw (mine, theirs) (
+  told_compared names m n ht mine theirs version =
       let payoffs = payoffs_compared version in
       let same = same_in_turn names t (table_of other) ht (is_table other h.means.complete) in
       grind arith
-      )
 
   pub parts_kept : ¬ (c.version ≡ Payoffs)
       → MeansTable bytes (content_of (record { heading = heading; kept = c.kept }))
-  parts_kept not =
-      let same : other ≡ content_of (record { heading = heading; kept = c.kept }) = grind arith in
-      subst (MeansTable bytes) same h.means
+  parts_kept not = grind arith
 
 -- the row at the next place
 pub next_row : (rs : List (List Ratio)) (row next all : List Ratio) (place : ℕ) → length row ≡ 0

@@ -1,6 +1,6 @@
 -- A table that is made from labels and fractions.
-use Rattle.gf_nfg.proofs.Common.{◌≡◌, ℕ, ◌*◌, ◌<◌, ◌≤◌, List, [], ◌∷◌, length, map, refl, ap}
-use Rattle.gf_nfg.proofs.Common.{◌∙◌, arith, Vec, rows_of, AllByRecursion, AllZip}
+use Rattle.gf_nfg.proofs.Common.{◌≡◌, ℕ, ◌*◌, ◌<◌, ◌≤◌, List, [], ◌∷◌, length, map}
+use Rattle.gf_nfg.proofs.Common.{arith, Vec, rows_of, AllByRecursion, AllZip}
 use Rattle.gf_nfg.proofs.Common.{length-map, label_of, Label, Ratio, IsFraction, all_both}
 use Rattle.gf_nfg.proofs.Common.{all_joined, all_lists, profile_limit, product, IsTableOf, AreParts}
 use Rattle.gf_nfg.proofs.Common.{AreSpellings, IsHeld, IsTable, Frame, rows, table_with}
@@ -18,9 +18,8 @@ abbrev pub AreKept : List Ratio → List Ratio → Type 0
 AreKept xs ys = (ys ≡ xs) × AllByRecursion IsFraction ys
 
 pub clones_are : (xs ys : List Ratio) → AllZip (λ x y. (y ≡ x) × IsFraction y) xs ys → AreKept xs ys
-clones_are [] [] h = (refl, tt)
 clones_are (x ∷ xs) (y ∷ ys) h = let k = clones_are xs ys h.1 in (cc (k.0, h.0.0), (h.0.1, k.1))
-clones_are xs ys h = absurd (grind arith)
+clones_are xs ys h = grind arith
 
 -- ---- parts that fit
 
@@ -63,27 +62,13 @@ module _ (frame : Frame) (payoffs : List Ratio) (p : AreParts frame payoffs) whe
       (full_in_turn (length frame.players) _ payoffs p.one_row_each)
 
   pub made_held : IsHeld frame made_rows
-  made_held = record {
-    is_table = table_made;
-    spellable = record {
-      labels_spelled = p.spelled;
-      payoffs_are_fractions =
-          rw rows_are (all_lists IsFraction made_rows (rw in_turn p.fractions));
-    };
-    within = omega (arith, entries_counted _ table_made, p.within);
-    rows_are = rows_are;
-  }
+  made_held =
+      let fractions = all_lists IsFraction made_rows (rw in_turn p.fractions) in
+      grind (arith, table_made, entries_counted (table_with frame made_rows) table_made, rows_are)
 
   pub made_is : IsTableOf (table_with frame made_rows) frame.title frame.comment frame.players
       frame.strategies payoffs
-  made_is = record {
-    title_is = refl;
-    comment_is = refl;
-    players_are = refl;
-    strategies_are = refl;
-    payoffs_are = ap joined rows_are ∙ in_turn;
-    is_table = table_made;
-  }
+  made_is = grind (arith, joined, rows_are, in_turn, is_table, table_made)
 
 pub ruleset made_in_turn = (made_held, made_is)
 

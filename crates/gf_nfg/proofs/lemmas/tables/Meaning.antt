@@ -14,9 +14,7 @@ length-groups : {A : Type 0} (sizes : List ℕ) (items : List A) → length item
     → map length (groups sizes items) ≡ sizes
 length-groups [] items e = refl
 length-groups (n ∷ sizes) items e =
-    let more = length-groups sizes (drop n items)
-    (omega (arith, e, sum-cons n sizes, length-drop n items)) in
-    grind (arith, sum-cons, length-take, drop, length-drop)
+    grind (arith, sum-cons, length-drop, length-take, length-groups sizes (drop n items))
 
 -- the strategies are as many as the counts say
 pub counts-strategies_of : (counts : List ℕ) (labels : List (List ℕ)) → HasLabels counts labels
@@ -33,8 +31,7 @@ strategies_of-joined lists h = grind arith
 
 pub has_rows : (c : Content) (choices : List ℕ) → HasPayoffs c choices
     → HasRows (length c.players) c.profiles c.payoffs choices
-has_rows c [] h = h ∙ mul_comm (length c.players) c.profiles
-has_rows c (k ∷ choices) h = (h.0, h.1 ∙ mul_comm (length c.players) h.0, h.2, h.3)
+has_rows c choices h = grind (arith, mul_comm)
 
 pub ruleset rows_of_parts = (has_rows, length-map)
 
@@ -45,8 +42,7 @@ module _ (c : Content) (h : IsComplete c) where
   rs = rows_by c c.choices
 
   rows_counted : length rs ≡ c.profiles
-  rows_counted = kept.rows_counted (length c.players) c.profiles c.payoffs c.choices
-      (has_rows c c.choices h.has_rows)
+  rows_counted = grind (arith, kept.rows_counted, has_rows)
 
   pub profiles_counted : c.profiles ≡ product (map length (frame_in c).strategies)
   profiles_counted = grind (arith, counts-strategies_of)
@@ -72,9 +68,4 @@ module _ (c : Content) (h : IsComplete c) where
 
   pub held : (frame : Frame) (qs : List (List Ratio)) → frame ≡ frame_in c → qs ≡ rs
       → c.profiles ≤ profile_limit → IsSpellable (table_of c) → IsHeld frame qs
-  held frame qs n r within spellable = rw (n, r) (record {
-    is_table = is_table;
-    spellable = spellable;
-    within = within_limit within;
-    rows_are = rows-table_of;
-  })
+  held frame qs n r within spellable = grind (arith, is_table, within_limit, rows-table_of)

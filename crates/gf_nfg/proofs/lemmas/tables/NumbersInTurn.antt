@@ -30,5 +30,4 @@ number_in first n s h k =
     grind (arith, numbers_joined first a (suc (n - a - 1)))
 
 pub contains_in : {X : Type 0} (xs : List X) (x : X) → IsIn xs x → Contains xs x
-contains_in xs x h =
-    grind (arith, length-append h.0 (x ∷ h.1), get_or_at h.0 x h.1 x (length h.0) refl)
+contains_in xs x h = grind (arith, length-append, get_or_at h.0 x h.1 x (length h.0) refl)

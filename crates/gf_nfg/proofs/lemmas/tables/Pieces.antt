@@ -35,16 +35,13 @@ start_before_end whole from ends k d r h = grind arith
 
 pub end_within : (whole from : ℕ) (ends : List ℕ) (k d : ℕ)
     → RisesTo whole from ends → k < length ends → get_or ends k d ≤ whole
-end_within whole from (end ∷ ends) (suc k) d r h =
-    end_within whole end ends k d r.1 (omega (arith, h))
+end_within whole from (end ∷ ends) (suc k) d r h = grind (arith, end_within whole end ends k d r.1)
 end_within whole from ends k d r h = grind (arith, rises_within)
 
 part_and_rest : {A : Type 0} (from n : ℕ) (xs : List A) → from ≤ n
     → take (n - from) (drop from xs) ++ drop n xs ≡ drop from xs
 part_and_rest from n xs h =
-    let more : from + (n - from) ≡ n = omega arith in
-    rw (drop-drop (n - from) from xs ∙ ap (λ i. drop i xs) more)
-    at (take-append-drop (n - from) (drop from xs))
+    grind (arith, drop-drop (n - from) from xs, take-append-drop (n - from) (drop from xs))
 
 -- a list and its ends are known by the pieces
 cut_once : {A : Type 0} (from : ℕ) (ends stops : List ℕ) (xs ys : List A)

@@ -4,7 +4,7 @@ use Common.{mul-le-mul_right, AllByRecursion, profile_limit, get_or_from_slice_g
 use Common.{all_images, table_with, length-map, get_or-map, slice_get, zero, drop_more, IsProfile}
 use Common.{mul_comm, profiles, IsPlaced, IsTable, PaysAt, length, get_or, IsHeld, own_of, arith}
 use Common.{Ratio, place, Table, Entry, Frame, List, drop, Some, rows}
-use Common.{◌≡◌, ◌∙◌, ap, suc, ◌+◌, ◌-◌, ◌*◌, ◌<◌, ◌≤◌, ◌∷◌, map, ◌⊎◌, [], ℕ}
+use Common.{◌≡◌, suc, ◌+◌, ◌-◌, ◌*◌, ◌<◌, ◌≤◌, ◌∷◌, map, ◌⊎◌, [], ℕ}
 use Rattle.std.proofs.lemmas.List.Elements.{AllZip-get_or, length_all_zip}
 use Rattle.gf_nfg.proofs.lemmas.tables.Profiles.{every_profile, length-profiles}
 use Rattle.gf_nfg.proofs.lemmas.tables.Profiles.{place_at as stands_at}
@@ -13,14 +13,11 @@ use Rattle.gf_nfg.proofs.lemmas.tables.Rows.{entries_counted}
 -- a profile stands at its place alone
 place_found : (counts profile : List ℕ) (k i : ℕ) → IsPlaced counts profile k
     → i < length (profiles counts) → get_or (profiles counts) i profile ≡ profile → i ≡ k
-place_found counts profile k i h less same = grind (arith, stands_at counts i profile less)
+place_found counts profile k i h less same = grind (arith, stands_at)
 
 pub place_below : (counts profile : List ℕ) (k : ℕ) → IsPlaced counts profile k
     → k < product counts
-place_below counts profile k h =
-    let c = (every_profile counts profile).1 h.is_profile in
-    let here = place_found counts profile k c.0 h c.1 c.2 in
-    omega (arith, c.1, here, length-profiles counts)
+place_below counts profile k h = grind (arith, every_profile, place_found, length-profiles)
 
 -- ---- the code's steps, from the last player to the first
 
@@ -32,10 +29,7 @@ place_more : (counts profile : List ℕ) (at count k : ℕ) → at < length coun
     → count ≡ get_or counts at 0 → 0 < get_or profile at 0 → get_or profile at 0 ≤ count
     → IsPlaced (drop (at + 1) counts) (drop (at + 1) profile) k
     → IsPlaced (drop at counts) (drop at profile) (k * count + (get_or profile at 0 - 1))
-place_more counts profile at count k h l c above within placed =
-    let first = drop_more counts at 0 h in
-    let second = drop_more profile at 0 l in
-    grind (arith, mul_comm)
+place_more counts profile at count k h l c above within placed = grind (arith, drop_more, mul_comm)
 
 pub product_drop : (counts : List ℕ) (at : ℕ) → AllByRecursion (λ n. 0 < n) counts
     → product (drop at counts) ≤ product counts
@@ -84,18 +78,15 @@ pub strategy_in : {frame : Frame} {profile : List ℕ} {at place count : ℕ}
     → IsPlaced (drop at (map length frame.strategies)) (drop at profile)
     (place * count + (get_or profile at 0 - 1))
 strategy_in {frame} {profile} {at} {place} {count} a above within =
-    place_more (map length frame.strategies) profile at count place (at_count a).0
-    (omega (arith, a.player, a.one_number_each)) (at_count a).1 above within a.found
+    grind (arith, at_count a, place_more (map length frame.strategies) profile at count place)
 
 pub strategy_fits : {frame : Frame} {profile : List ℕ} {at place count : ℕ}
     → AtPlayer frame profile at place count → 0 < get_or profile at 0 → get_or profile at 0 ≤ count
     → place * count + (get_or profile at 0 - 1) < profile_limit
 strategy_fits {frame} {profile} {at} a above within =
-    let below = place_below (drop at (map length frame.strategies)) (drop at profile) _
-    (strategy_in a above within) in
-    let whole = product_drop (map length frame.strategies) at
-    (all_images (λ n. 0 < n) length frame.strategies a.some_strategy) in
-    omega (arith, below, whole, a.within)
+    let below = place_below _ _ _ (strategy_in a above within) in
+    let some = all_images (λ n. 0 < n) length frame.strategies a.some_strategy in
+    grind (arith, product_drop (map length frame.strategies) at)
 
 -- ---- the payoffs of a table at a profile
 
@@ -117,8 +108,7 @@ pub pays_there : (frame : Frame) (rs : List (List Ratio)) (profile : List ℕ) (
     (row : List Ratio) → IsHeld frame rs → IsPlaced (map length frame.strategies) profile k
     → slice_get rs k ≡ Some row → PaysAt (table_with frame rs) profile row
 pays_there frame rs profile k row h placed there =
-    pays_at_place (table_with frame rs) profile k row h.is_table placed
-    (ap (λ qs. slice_get qs k) h.rows_are ∙ there)
+    grind (arith, pays_at_place (table_with frame rs) profile k row h.is_table placed, h.rows_are)
 
 pub place_there : (frame : Frame) (rs : List (List Ratio)) (profile : List ℕ) (place : ℕ)
     → IsHeld frame rs → IsPlaced (map length frame.strategies) profile place → place < length rs

@@ -27,12 +27,10 @@ places_all : (count : ℕ) (counts : List ℕ) (tails : List (List ℕ)) (k : �
     ≡ numbers_from (count * k) (count * length tails)
 places_all count counts [] k e = grind arith
 places_all count counts (others ∷ tails) k e =
-    let here : place counts others ≡ k = cc in
-    let first = places_first count counts others k count 1 here (omega arith) in
     let start : 1 - 1 + count * k ≡ count * k = omega arith in
     let on : count * (k + 1) ≡ count * k + count = omega (arith, mul-suc count k) in
     let rest = places_all count counts tails (k + 1) (ap (drop 1) e) in
-    grind (arith, map-append, numbers_joined)
+    grind (arith, map-append, numbers_joined, places_first)
 
 length-firsts : (count : ℕ) (tails : List (List ℕ))
     → length (flat_map (firsts count) tails) ≡ count * length tails
@@ -49,8 +47,7 @@ places_are : (counts : List ℕ)
     → map (place counts) (profiles counts) ≡ numbers_from 0 (length (profiles counts))
 places_are [] = refl
 places_are (count ∷ counts) =
-    let all = places_all count counts (profiles counts) 0 (places_are counts) in
-    grind (arith, length-firsts count (profiles counts))
+    grind (arith, places_all count counts (profiles counts) 0 (places_are counts), length-firsts)
 
 pub profiles_in_order : (counts : List ℕ)
     → map (place counts) (profiles counts) ≡ numbers_from 0 (product counts)
@@ -59,9 +56,8 @@ profiles_in_order counts = places_are counts ∙ ap (numbers_from 0) (length-pro
 pub place_at : (counts : List ℕ) (i : ℕ) (d : List ℕ) → i < length (profiles counts)
     → place counts (get_or (profiles counts) i d) ≡ i
 place_at counts i d h =
-    let there = get_or-map (place counts) (profiles counts) i d 0 h in
     let number = get_or-numbers_from 0 (length (profiles counts)) i 0 h in
-    grind (arith, places_are counts)
+    grind (arith, places_are counts, get_or-map)
 
 -- no profile stands twice
 pub profiles_distinct : (counts : List ℕ) (i j : ℕ) (d : List ℕ) → i < length (profiles counts)
@@ -96,9 +92,8 @@ all_profiles : (count : ℕ) (counts : List ℕ) (tails : List (List ℕ))
     → AllByRecursion (IsProfile (count ∷ counts)) (flat_map (firsts count) tails)
 all_profiles count counts [] h = tt
 all_profiles count counts (others ∷ tails) h =
-    all_both (IsProfile (count ∷ counts)) (firsts count others) (flat_map (firsts count) tails)
-    (all_first count counts others h.0 1 count (omega arith) (omega arith))
-    (all_profiles count counts tails h.1)
+    let first = all_first count counts others h.0 1 count (omega arith) (omega arith) in
+    grind (arith, all_both, all_profiles count counts tails h.1)
 
 pub are_profiles : (counts : List ℕ) → AllByRecursion (IsProfile counts) (profiles counts)
 are_profiles [] = (tt, tt)

@@ -5,7 +5,7 @@ use Common.{length-replicate, slice_get-get_or, profile_limit, slice_get-map, le
 use Common.{length-drop, chosen_rows, AreNumbered, table_with, all_images, all_weaker, length-map}
 use Common.{entries_of, kept_rows, AreShared, slice_get, unwrap_or, profiles, AreFull, HasRows}
 use Common.{vec_len, product, rows_of, length, get_or, row_of, IsTable, arith, Entry, Ratio, Table}
-use Common.{mul-suc, all_at, subst, whole, Frame, take, drop, rows, zero, List, Some, refl, suc}
+use Common.{mul-suc, all_at, whole, Frame, take, drop, rows, zero, List, Some, refl, suc}
 use Common.{map, ◌≢◌, sym, pos, Vec, ◌≡◌, ◌∷◌, ◌∙◌, ◌<◌, ◌≤◌, ◌+◌, ◌-◌, ◌*◌, ◌/◌, ap, [], ℕ}
 use Rattle.std.proofs.Math.Nat.{mul-div_cancel}
 use Rattle.gf_nfg.proofs.lemmas.tables.Profiles.{length-profiles}
@@ -48,16 +48,14 @@ module _ (frame : Frame) (rs : List (List Ratio))
 
 pub entries_counted : (t : Table) → IsTable t
     → length t.entries ≡ product (map length t.strategies)
-entries_counted t h =
-    sym (length-map t.entries (λ e. e.profile)) ∙ ap length h.one_entry_each ∙ length-profiles _
+entries_counted t h = grind (arith, length-map, length-profiles)
 
 -- ---- rows by their numbers
 
 pub rows_counted : (players count : ℕ) (payoffs : List Ratio) (numbers : List ℕ)
     → HasRows players count payoffs numbers
     → length (kept_rows players count payoffs numbers) ≡ count
-rows_counted players count payoffs [] h = length-rows_of players count payoffs
-rows_counted players count payoffs (k ∷ numbers) h = grind (arith, length-map)
+rows_counted players count payoffs numbers h = grind (arith, length-rows_of, length-map)
 
 full_row : (players outcomes : ℕ) (payoffs : List Ratio) → length payoffs ≡ outcomes * players
     → (number : ℕ) → number ≤ outcomes → length (row_of players payoffs number) ≡ players
@@ -91,9 +89,7 @@ module _ (players count : ℕ) (payoffs zeros : List Ratio) (rs : List (List Rat
 
   pub row_there : number ≢ 0 → slice_get rs number ≡ Some
       (take (number * players - (number - 1) * players) (drop ((number - 1) * players) payoffs))
-  row_there some =
-      let there = get-rows_of players count payoffs (number - 1) (omega (arith, at_most, some)) in
-      grind (arith, width)
+  row_there some = grind (arith, get-rows_of, at_most, width)
 
 pub ruleset numbered = (full_in_turn, length-rows_of, row_there, row_within, rows_in_turn)
 
@@ -101,8 +97,7 @@ pub ruleset numbered = (full_in_turn, length-rows_of, row_there, row_within, row
 none_paid : (payoffs : List Ratio) (choices : List ℕ)
     → rows_of 0 (length choices) payoffs ≡ map (row_of 0 payoffs) choices
 none_paid payoffs [] = refl
-none_paid payoffs (zero ∷ choices) = ap (λ rs. [] ∷ rs) (none_paid payoffs choices)
-none_paid payoffs (suc k ∷ choices) = ap (λ rs. [] ∷ rs) (none_paid payoffs choices)
+none_paid payoffs (k ∷ choices) = grind (arith, none_paid payoffs choices)
 
 pub in_turn : (players count : ℕ) (payoffs : List Ratio) (choices : List ℕ)
     → HasRows players count payoffs choices → (0 < players → length choices ≡ 0)
@@ -114,10 +109,8 @@ in_turn players count payoffs (k ∷ choices) h e = grind (arith, none_paid)
 -- the rows of outcomes by their numbers
 outcome_row : (players outcomes : ℕ) (payoffs : List Ratio) (k : ℕ) → k ≤ outcomes
     → get_or (no_pay players ∷ rows_of players outcomes payoffs) k [] ≡ row_of players payoffs k
-outcome_row players outcomes payoffs zero h = refl
-outcome_row players outcomes payoffs (suc k) h =
-    get_or_from_slice_get (rows_of players outcomes payoffs) k
-    (take players (drop (k * players) payoffs)) [] (get-rows_of players outcomes payoffs k h)
+outcome_row players outcomes payoffs k h =
+    grind (arith, get_or_from_slice_get, get-rows_of players outcomes payoffs (k - 1))
 
 outcome_rows : (players outcomes : ℕ) (payoffs : List Ratio) (choices : List ℕ)
     → AllByRecursion (λ n. n ≤ outcomes) choices
@@ -125,8 +118,7 @@ outcome_rows : (players outcomes : ℕ) (payoffs : List Ratio) (choices : List �
     ≡ map (row_of players payoffs) choices
 outcome_rows players outcomes payoffs [] h = refl
 outcome_rows players outcomes payoffs (k ∷ choices) h =
-    (λ i. outcome_row players outcomes payoffs k h.0 i
-    ∷ outcome_rows players outcomes payoffs choices h.1 i)
+    grind (arith, outcome_row, outcome_rows players outcomes payoffs choices h.1)
 
 pub record AreOutcomes (players count : ℕ) (payoffs : List Ratio) (choices : List ℕ) (outcomes : ℕ)
     : Type 0 where
@@ -140,20 +132,17 @@ pub by_outcomes : (players count : ℕ) (payoffs : List Ratio) (choices : List �
     → size ≡ length payoffs → AreOutcomes players count payoffs choices (size / players)
 by_outcomes players count payoffs [] size h some chosen is = absurd (omega (arith, chosen))
 by_outcomes players count payoffs (k ∷ choices) size h some chosen is =
-    let outcomes = size / players in
-    let same : outcomes ≡ h.0 =
-    ap (λ n. n / players) (is ∙ h.1) ∙ mul-div_cancel h.0 some in
-    record {
-      full = rw same h.1;
+    let same : h.0 ≡ size / players = grind (arith, mul-div_cancel) in
+    rw (← same) (record {
+      full = h.1;
       numbered = record {
         counted = grind (arith, length-map);
         below = all_weaker (λ n. n ≤ h.0)
-            (λ n. n < length (no_pay players ∷ rows_of players outcomes payoffs))
+            (λ n. n < length (no_pay players ∷ rows_of players h.0 payoffs))
             (λ n less. grind (arith, length-rows_of)) (k ∷ choices) h.3;
       };
-      are = outcome_rows players outcomes payoffs (k ∷ choices)
-          (subst (λ m. AllByRecursion (λ n. n ≤ m) (k ∷ choices)) (sym same) h.3);
-    }
+      are = outcome_rows players h.0 payoffs (k ∷ choices) h.3;
+    })
 
 pub ruleset rows_made = (in_turn, by_outcomes)
 
@@ -175,9 +164,7 @@ module _ (count : ℕ) (rows all : List (List Ratio)) (place number : ℕ) where
 pub are_shared : (count : ℕ) (rows all : List (List Ratio)) (numbers : List ℕ)
     → AreNumbered count rows numbers → chosen_rows rows numbers ≡ all → 0 < length numbers
     → AreShared all rows numbers
-are_shared count rows all [] h view some = absurd (omega (arith, some))
-are_shared count rows all (k ∷ numbers) h view some =
-    record { rows_are = sym view; below = h.below }
+are_shared count rows all numbers h view some = grind arith
 
 pub ruleset numbers_chosen = (are_shared, row_chosen)
 

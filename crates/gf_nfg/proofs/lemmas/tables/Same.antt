@@ -9,8 +9,7 @@ use Rattle.gf_nfg.proofs.lemmas.tables.Profiles.{profiles_distinct}
 profile_at : (counts : List ℕ) (xs : List Entry) (i : ℕ) (d : Entry)
     → map (λ e. e.profile) xs ≡ profiles counts → i < length xs
     → (i < length (profiles counts)) × (get_or (profiles counts) i [] ≡ (get_or xs i d).profile)
-profile_at counts xs i d r h =
-    grind (arith, length-map, get_or-map (λ (e : Entry). e.profile) xs i d [] h)
+profile_at counts xs i d r h = grind (arith, length-map, get_or-map)
 
 -- an entry for each profile, and each of the entries among the others: the same entries
 same_entries : (counts : List ℕ) (es fs : List Entry) → map (λ e. e.profile) es ≡ profiles counts
@@ -31,16 +30,12 @@ same_entries counts es fs p q pays = same_lists es fs (grind (arith, length-map)
 -- each table pays what the other does: the same entries
 same_payoffs : (t u : Table) → IsTable t → IsTable u → SamePlay t u → t.entries ≡ u.entries
 same_payoffs t u ht hu h =
-    let profiles_of_u = hu.one_entry_each ∙ ap (λ s. profiles (map length s)) (sym h.strategies) in
-    same_entries (map length t.strategies) t.entries u.entries ht.one_entry_each profiles_of_u
+    same_entries (map length t.strategies) t.entries u.entries ht.one_entry_each (grind arith)
     (λ e c. (h.payoffs e.profile e.payoffs).0 c)
 
 pub same_play_by_rows : (t u : Table) → IsTable t → IsTable u
     → SamePlay t u ↔ ((t.players ≡ u.players) × (t.strategies ≡ u.strategies) × (rows t ≡ rows u))
-same_play_by_rows t u ht hu =
-    let entries = agrees.same_entries t u ht hu in
-    let pays = same_payoffs t u ht hu in
-    grind arith
+same_play_by_rows t u ht hu = grind (arith, agrees.same_entries, same_payoffs)
 
 -- a table without its payoffs
 abbrev pub frame_in : Table → Frame
@@ -60,9 +55,6 @@ same_play_as_kept t u m n xs ys answer ht hu left right both mine others same =
     grind (arith, same_play_by_rows)
 
 pub same_is_equal : (t u : Table) → IsTable t → IsTable u → SameTable t u ↔ (t ≡ u)
-same_is_equal t u ht hu =
-    let play = same_play_by_rows t u ht hu in
-    let entries = agrees.same_entries t u ht hu in
-    grind arith
+same_is_equal t u ht hu = grind (arith, same_play_by_rows, agrees.same_entries)
 
 pub ruleset same_tables = (same_is_equal, same_play_by_rows)

@@ -1,11 +1,10 @@
 -- What a file means is a table that a file can hold.
-use Rattle.gf_nfg.proofs.Common.{ℕ, ◌^◌, ◌<◌, ◌∷◌, map, ap, ◌∙◌, inl, inr, ◌⊎◌}
-use Rattle.gf_nfg.proofs.Common.{zero, suc, pos, ◌+◌, List, [], ◌++◌, Text, Each, Table, rows, Pays}
-use Rattle.gf_nfg.proofs.Common.{length, subst, arith, Token, braced, Ratio, whole, all_at, IsCount}
-use Rattle.gf_nfg.proofs.Common.{replicate, flat_map, IsSpelled, IsFraction, all_joined, all_mapped}
-use Rattle.gf_nfg.proofs.Common.{decimal, IsLabel, Closing, all_parts, all_both, IsTable, Sentence}
-use Rattle.gf_nfg.proofs.Common.{AllByRecursion, IsPayoffInBraces, IsOutcomeInBraces, IsOutcomeBody}
-use Rattle.gf_nfg.proofs.Common.{numbers_from, IsSpellable, IsLabelList, IsPayoffBody, SpellsTable}
+use Rattle.gf_nfg.proofs.Common
+use Common.{AllByRecursion, IsOutcomeBody, numbers_from, IsPayoffBody, IsSpellable, IsLabelList}
+use Common.{SpellsTable, IsFraction, all_joined, all_mapped, replicate, IsSpelled, all_parts, ◌^◌}
+use Common.{flat_map, all_both, Sentence, IsCount, decimal, IsLabel, Closing, IsTable, length, []}
+use Common.{braced, all_at, Table, subst, arith, Token, Ratio, whole, zero, List, ◌++◌, Text, ◌<◌}
+use Common.{Each, rows, Pays, ◌∷◌, map, inl, inr, ◌⊎◌, suc, pos, ◌+◌, ℕ}
 use Rattle.gf_token.proofs.Offered.{AllSpelled, all_spelled, braced_spelled, comment_spelled}
 use Rattle.gf_fraction.proofs.Offered.{whole_fraction}
 use Rattle.gf_nfg.proofs.lemmas.tables.LabelLists.{decimal_label}
@@ -15,8 +14,7 @@ use Rattle.gf_nfg.proofs.lemmas.tables.LabelLists.{decimal_label}
 counted_labels : (first n : ℕ) → first + n < 10 ^ 64
     → AllByRecursion IsLabel (map decimal (numbers_from first n))
 counted_labels first zero h = tt
-counted_labels first (suc n) h =
-    (decimal_label first (omega (arith, h)), counted_labels (first + 1) n (omega (arith, h)))
+counted_labels first (suc n) h = grind (arith, decimal_label, counted_labels (first + 1) n)
 
 texts_spelled : (names : List (List ℕ)) (rest : List Token)
     → AllSpelled (braced (map Text names) ++ rest) → AllByRecursion IsLabel names × AllSpelled rest
@@ -27,9 +25,7 @@ label_lists_spelled : (strategies : List (List (List ℕ))) (inner : List Token)
     → AllByRecursion (λ names. AllByRecursion IsLabel names) strategies
 label_lists_spelled [] inner h all = tt
 label_lists_spelled (names ∷ strategies) inner h all =
-    let both = subst AllSpelled (h.2 ∙ ap (λ (ts : List Token). ts ++ h.1) h.3) all in
-    let k = texts_spelled names h.1 both in
-    (k.0, label_lists_spelled strategies h.1 h.4 k.1)
+    grind (arith, texts_spelled, label_lists_spelled strategies h.1 h.4)
 
 count_spelled : (tokens : List Token) (names : List (List ℕ)) → IsCount tokens names
     → AllByRecursion IsLabel names
@@ -59,9 +55,7 @@ payoffs_spelled : (players : ℕ) (tokens : List Token) (rs : List (List Ratio))
     → (IsPayoffBody tokens rs ⊎ IsOutcomeBody players tokens rs) → AllByRecursion AreFractions rs
 payoffs_spelled players tokens rs (inl h) = grind (arith, each_value)
 payoffs_spelled players tokens rs (inr h) =
-    let outcomes = each_value (IsOutcomeInBraces players) AreFractions
-    (λ ts row is. each_value IsPayoffInBraces IsFraction (λ us r one. one.3.fraction) row is.1 is.3)
-    h.outcomes h.list h.listed in
+    let outcomes : AllByRecursion AreFractions h.outcomes = grind (arith, each_value) in
     grind (arith, each_value, paid)
 
 -- ---- the table

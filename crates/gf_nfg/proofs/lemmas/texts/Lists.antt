@@ -20,9 +20,7 @@ list_opens lists n k h = rw (drop_more lists n [] h) refl
 pub label_next : (lists : List (List (List ℕ))) (n k : ℕ) → n < length lists
     → k < length (get_or lists n []) → lists_text true k (drop n lists)
     ≡ quoted (get_or (get_or lists n []) k []) ++ 32 ∷ lists_text true (k + 1) (drop n lists)
-label_next lists n k h less =
-    rw (drop_more lists n [] h, drop_more (get_or lists n []) k [] less)
-    (grind (arith, append_assoc))
+label_next lists n k h less = grind (arith, drop_more, append_assoc)
 
 pub list_ends : (lists : List (List (List ℕ))) (n k : ℕ) → n < length lists
     → length (get_or lists n []) ≤ k

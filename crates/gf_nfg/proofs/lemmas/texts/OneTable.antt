@@ -34,15 +34,9 @@ row_tokens row = flat_map payoff_tokens row
 is_payoff : (r : Ratio) → IsFraction r → IsPayoff (payoff_tokens r) r
 is_payoff r h = (number_text r, refl, written_is_read r h)
 
-is_row : (row : List Ratio) → AllByRecursion IsFraction row → Each IsPayoff (row_tokens row) row
-is_row row h = each_group IsPayoff payoff_tokens row
-    (all_weaker IsFraction (λ r. IsPayoff (payoff_tokens r) r) is_payoff row h)
-
 is_rows : (rs : List (List Ratio)) → AllByRecursion (λ row. AllByRecursion IsFraction row) rs
     → IsPayoffBody (flat_map row_tokens rs) rs
-is_rows rs h =
-    each_group (Each IsPayoff) row_tokens rs (all_weaker (λ row. AllByRecursion IsFraction row)
-    (λ row. Each IsPayoff (row_tokens row) row) is_row rs h)
+is_rows rs h = grind (arith, each_group, all_weaker, is_payoff)
 
 -- ---- the table
 
@@ -103,11 +97,10 @@ text_again bytes t u h k =
 pub equal_texts : (t u : Table) → IsTable t → IsSpellable t → IsTable u → IsSpellable u
     → (table_text t ≡ table_text u) ↔ SameTable t u
 equal_texts t u ht st hu su =
-    let same = same_is_equal t u ht hu in
     let mine = text_reads_back t ht st in
     let other = text_reads_back u hu su in
     let one = spells_one_table (table_text u) t u in
-    grind arith
+    grind (arith, same_is_equal)
 
 pub equal_texts_of_files : (a b : List ℕ) (t u : Table) → SpellsTable a t → SpellsTable b u
     → (table_text t ≡ table_text u) ↔ SameTable t u

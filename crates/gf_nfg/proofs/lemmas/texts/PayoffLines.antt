@@ -35,14 +35,9 @@ row_laid width payoff (next ∷ row) payoffs =
 pub rows_laid : (width : ℕ) (rs : List (List Ratio)) → AllByRecursion (λ row. 0 < length row) rs
     → AllByRecursion (λ row. length row ≡ width) rs
     → payoffs_text width width (joined rs) ≡ lines_text (map row_text rs)
-rows_laid width [] some h = refl
-rows_laid width ([] ∷ rs) some h = absurd (omega (arith, some.0))
-rows_laid width ((payoff ∷ row) ∷ rs) some h = grind (
-  arith,
-  append_assoc,
-  row_laid width payoff row (joined rs),
-  rows_laid width rs some.1 h.1,
-)
+rows_laid width ((payoff ∷ row) ∷ rs) some h =
+    grind (arith, append_assoc, row_laid, joined, rows_laid width rs some.1 h.1)
+rows_laid width rs some h = grind arith
 
 -- ---- the whole text
 

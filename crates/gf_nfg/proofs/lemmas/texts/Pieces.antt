@@ -1,10 +1,10 @@
 -- Canonical text, piece by piece.
-use Rattle.gf_nfg.proofs.Common.{◌≡◌, ℕ, ◌+◌, ◌<◌, ◌∙◌, [], ◌∷◌, map, refl, sym, ap, Err, Ok}
+use Rattle.gf_nfg.proofs.Common.{◌≡◌, ℕ, ◌+◌, ◌<◌, [], ◌∷◌, map, refl, sym, ap, Err, Ok}
 use Rattle.gf_nfg.proofs.Common.{append_assoc, at_drop_more, take-append-le, take-append-drop, List}
 use Rattle.gf_nfg.proofs.Common.{◌++◌, drop, Some, codes, OnErr, Result, Ratio, spaced, Keeps}
-use Rattle.gf_nfg.proofs.Common.{length, get_or, drop_all, line_text, list_text, row_text}
+use Rattle.gf_nfg.proofs.Common.{length, get_or, drop_all, line_text, list_text}
 use Rattle.gf_nfg.proofs.Common.{drop_more, slice_get_within, get_or_from_slice_get, quoted}
-use Rattle.gf_nfg.proofs.Common.{slice_get, arith, length-take, append-nil, lines_text, others_text}
+use Rattle.gf_nfg.proofs.Common.{slice_get, arith, length-take, append-nil, others_text}
 use Rattle.gf_fraction.specs.NumberText.{number_text}
 use Rattle.gf_nfg.specs.inner.ListsLeft.{items_text}
 use Rattle.gf_nfg.specs.inner.TextParts.{lines_rest}
@@ -53,6 +53,4 @@ pub ruleset rows_spaced = (append_assoc, spaced_is)
 pub row_written : (rs : List (List Ratio)) (at : ℕ) (row : List Ratio) (old new whole : List ℕ)
     → slice_get rs at ≡ Some row → new ≡ old ++ line_text row → old ++ lines_rest rs at ≡ whole
     → new ++ lines_rest rs (at + 1) ≡ whole
-row_written rs at row old new whole is written h =
-    rw (written, append_assoc old (line_text row) (lines_rest rs (at + 1)))
-    (ap (λ left. old ++ lines_text (map row_text left)) (sym (drop_from rs at row is)) ∙ h)
+row_written rs at row old new whole is written h = grind (arith, append_assoc, drop_from)

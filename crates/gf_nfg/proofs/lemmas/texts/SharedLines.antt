@@ -40,7 +40,6 @@ pub lines_chosen : (rows : List (List Ratio)) (numbers : List ℕ)
     → lines_with (map line_text rows) numbers
     ≡ lines_text (map row_text (map (λ n. get_or rows n []) numbers))
 lines_chosen rows [] h = refl
-lines_chosen rows (number ∷ numbers) h =
-    grind (arith, get_or-map line_text rows number [] [] h.0, lines_chosen rows numbers h.1)
+lines_chosen rows (number ∷ numbers) h = grind (arith, get_or-map, lines_chosen rows numbers h.1)
 
 pub ruleset shared_lines = (lines_chosen, numbers_within)

@@ -1,4 +1,4 @@
-use Rattle.gf_nfg.proofs.Common.{◌<◌, arith, length}
+use Rattle.gf_nfg.proofs.Common.{arith}
 use Rattle.std.proofs.lemmas.List.{nil_from_length}
 use Rattle.gf_nfg.proofs.lemmas.tables.Listed.{in_turn_listed, in_turn_means, lacking, parts_told}
 use Rattle.gf_nfg.proofs.lemmas.tables.Listed.{some_is}
@@ -17,7 +17,4 @@ returns-then-is_empty c = λ bytes h.
     in_turn_means _ _ _ h _ c.in_ok-frame.ensures none
 
 pub returns : goal.returns
-returns c = λ bytes h.
-    let some : 0 < length c.args.listing.kept.numbers.items = grind arith in
-    let m = parts_told _ _ _ h (some_is _ some) in
-    rw c.in_ok-table.ensures (m.spelled, m.within)
+returns c = λ bytes h. grind (arith, parts_told _ _ _ h (some_is _ (grind arith)))

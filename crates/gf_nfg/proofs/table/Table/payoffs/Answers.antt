@@ -1,18 +1,14 @@
-use Rattle.gf_nfg.proofs.Common.{PaysAt, arith, subst}
+use Rattle.gf_nfg.proofs.Common.{rules, arith}
 use Rattle.gf_nfg.proofs.lemmas.tables.Places.{pays_there, place_there}
 use Rattle.gf_nfg.proofs.lemmas.tables.Rows.{entries_counted}
 use Rattle.gf_nfg.proofs.table.Table.payoffs.Goals as goal
 
 pub place_of-requires-clause-within : goal.place_of-requires-clause-within
-place_of-requires-clause-within c =
-    let counted = entries_counted _ c.self.invariant.is_table in
-    omega (arith, counted, c.self.invariant.within)
+place_of-requires-clause-within c = search (rules, entries_counted)
 
 pub row-requires : goal.row-requires
 row-requires c = place_there _ c.self.inside.payoffs c.args.profile.now _ c.self.invariant
     c.in-Some.ensures
 
 pub returns-in-Some : goal.returns-in-Some
-returns-in-Some c = subst (λ t. PaysAt t c.args.profile.now c.row.result.now) c.self.view_is
-    (pays_there _ c.self.inside.payoffs c.args.profile.now _ _ c.self.invariant
-    c.in-Some.ensures c.row.ensures)
+returns-in-Some c = grind (arith, pays_there)

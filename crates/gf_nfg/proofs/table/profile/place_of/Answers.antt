@@ -1,4 +1,4 @@
-use Rattle.gf_nfg.proofs.Common.{◌∙◌, ◌-◌, arith}
+use Rattle.gf_nfg.proofs.Common.{◌-◌, arith}
 use Rattle.gf_nfg.proofs.lemmas.tables.Places.{AtPlayer, player_before, strategy_fits, strategy_in}
 use Rattle.gf_nfg.proofs.lemmas.tables.Places.{strategy_out}
 use Rattle.gf_nfg.proofs.table.profile.place_of.Goals.{After-strategies-count}
@@ -6,12 +6,7 @@ use Rattle.gf_nfg.proofs.table.profile.place_of.Goals as goal
 
 player : (c : After-strategies-count) → AtPlayer c.args.frame.now c.args.profile.now
     (c.loop-at.at - 1) c.loop-at.place c.strategies-count.result
-player c = player_before {frame = c.args.frame.now} c.requires.one_list_each
-    c.requires.some_strategy c.requires.within
-    (c.if-profile-players.false ∙ c.players-players.ensures.players)
-    (omega (arith, c.loop-at-test.true))
-    (omega (arith, c.loop-at.auto.at, c.players-players.ensures.players))
-    c.loop-at.invariant c.strategies-count.ensures
+player c = grind (arith, player_before)
 
 pub returns-then-strategy-eq0 : goal.returns-then-strategy-eq0
 returns-then-strategy-eq0 c =
