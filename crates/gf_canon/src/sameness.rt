@@ -16,7 +16,7 @@ use crate::kind::{FileKind, kind_of};
 use crate::meaning::{Listed, Meaning, list_file};
 use crate::sameness::comparison::TreeComparison;
 use crate::sameness::walk::same_games;
-use gf_nfg::{ListedTable, Table, compare_nfg};
+use gf_nfg::{CompareFault, ListedTable, Table, compare_nfg};
 use gf_token::{Fault, Names};
 use gf_tree::{ListedGame, tell_efg};
 use std::alloc::{AllocError, Global};
@@ -85,24 +85,24 @@ fn same_as_tree(alloc: Global, g: &ListedGame<'_>, b: &[u8], names: Names) -> Re
 }
 
 /// Whether a file means the same as a table, with which another table is compared while it is read.
-/// `AllocError` if the file is accepted, and memory to compare it is refused.
 #[tactic(auto, using(crate::proofs::lemmas::files::Refused::refusals))]
-fn same_as_table(
-    alloc: Global,
-    t: &ListedTable,
-    b: &[u8],
-    names: Names,
-) -> Result<Result<bool, AllocError>, Fault>
-    ensures same { IfOk result (λ compared. (y : GameFile) × SpellsWithin b.now y
-        × IfOk compared (λ answer. IsTrue answer ↔ SameBy names (strategic t.now) y)) }
-    ensures refused { IfErr result (IsRefusedWith b.now) }
+fn same_as_table(alloc: Global, t: &ListedTable, b: &[u8], names: Names) -> Result<bool, SameFault>
+    ensures same { IfOk result (λ answer. (y : GameFile) × SpellsWithin b.now y
+        × (IsTrue answer ↔ SameBy names (strategic t.now) y)) }
+    ensures refused { IfErr result (λ fault.
+        (a : List ℕ) → MeansFile a → AreRefusedWith a b.now fault) }
 {
-    match kind_of(b)? {
-        FileKind::Tree => {
-            tell_efg(alloc, b, &mut Unkept)?;
-            Ok(Ok(false))
-        }
-        FileKind::Strategic => compare_nfg(alloc, t, b, names),
+    match kind_of(b) {
+        Ok(FileKind::Strategic) => match compare_nfg(alloc, t, b, names) {
+            Ok(answer) => Ok(answer),
+            Err(CompareFault::Refused(fault)) => Err(SameFault::Second(fault)),
+            Err(CompareFault::Memory) => Err(SameFault::Memory),
+        },
+        Ok(FileKind::Tree) => match tell_efg(alloc, b, &mut Unkept) {
+            Ok(_) => Ok(false),
+            Err(fault) => Err(SameFault::Second(fault)),
+        },
+        Err(fault) => Err(SameFault::Second(fault)),
     }
 }
 
@@ -122,11 +122,7 @@ fn same_as(alloc: Global, first: &Listed<'_>, b: &[u8], names: Names) -> Result<
             Ok(answer) => Ok(answer),
             Err(fault) => Err(SameFault::Second(fault)),
         },
-        Listed::Table(table) => match same_as_table(alloc, table, b, names) {
-            Ok(Ok(same)) => Ok(same),
-            Ok(Err(_)) => Err(SameFault::Memory),
-            Err(refused) => Err(SameFault::Second(refused)),
-        },
+        Listed::Table(table) => same_as_table(alloc, table, b, names),
     }
 }
 

@@ -2,9 +2,9 @@
 
 ghost use Rattle.std.specs.Prelude.{◌≡◌, ◌↔◌, [], ℕ, List, IfErr, IfOk, IsTrue};
 ghost use Rattle.std.specs.List.{flat_map};
-ghost use Rattle.gf_token.specs.declared.fault.Why.TheVariants.{Memory};
+ghost use Rattle.gf_nfg.specs.declared.comparison.CompareFault.{CompareFault};
 ghost use Rattle.gf_nfg.specs.inner.ComparedTable.{IsCompared};
-ghost use Rattle.gf_nfg.specs.Judgement.{IsJudged};
+ghost use Rattle.gf_nfg.specs.Judgement.{IsNotCompared};
 ghost use Rattle.gf_nfg.specs.Limit.{IsWithinLimit};
 ghost use Rattle.gf_nfg.specs.NamedBy.{named_by};
 ghost use Rattle.gf_nfg.specs.SameTable.{SameTable};
@@ -158,25 +158,49 @@ fn same_table(
     }
 }
 
+/// Why a file is not compared with a table.
+#[derive(Clone, Copy)]
+pub enum CompareFault {
+    /// The file is refused with this fault.
+    Refused(Fault),
+    /// It is accepted, and memory to compare it is refused.
+    Memory,
+}
+
+impl From<Fault> for CompareFault {
+    ghost from_gives = { λ fault refused. refused ≡ CompareFault.Refused fault };
+
+    fn from(fault: Fault) -> CompareFault {
+        CompareFault::Refused(fault)
+    }
+}
+
+impl From<AllocError> for CompareFault {
+    ghost from_gives = { λ _ fault. fault ≡ CompareFault.Memory };
+
+    fn from(_: AllocError) -> CompareFault {
+        CompareFault::Memory
+    }
+}
+
 /// Whether a strategic file means the same table as this one, with which it is compared while it is
-/// read; title and comment count if `names` are kept. `AllocError` if it is accepted, and memory to
-/// compare it is refused.
+/// read; title and comment count if `names` are kept.
 ///
-/// Refused as `read_nfg` refuses.
+/// # Errors
+///
+/// - `Refused`: the file is refused, as `read_nfg` refuses.
+/// - `Memory`: it is accepted, and memory to compare it is refused.
 pub fn compare_nfg(
     alloc: Global,
     t: &ListedTable,
     input: &[u8],
     names: Names,
-) -> Result<Result<bool, AllocError>, Fault>
-    ensures same { IfOk result (λ compared. (u : table) × SpellsTable input.now u × IsWithinLimit u
-        × IfOk compared (λ answer.
-        IsTrue answer ↔ SameTable (named_by names t.now) (named_by names u))) }
-    ensures only { IfErr result (λ fault. (u : table) → SpellsTable input.now u → IsWithinLimit u
-        → fault.why ≡ Memory) }
-    ensures judged { IfErr result (λ fault. IsJudged fault.why input.now fault.span) }
+) -> Result<bool, CompareFault>
+    ensures same { IfOk result (λ answer. (u : table) × SpellsTable input.now u × IsWithinLimit u
+        × (IsTrue answer ↔ SameTable (named_by names t.now) (named_by names u))) }
+    ensures refused { IfErr result (IsNotCompared input.now) }
 {
     let mut comparison = Comparison::new(alloc, t);
     let heading = tell_nfg(alloc, input, &mut comparison)?;
-    Ok(comparison.is_same(alloc, t, heading, names))
+    Ok(comparison.is_same(alloc, t, heading, names)?)
 }

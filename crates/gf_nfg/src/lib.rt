@@ -13,7 +13,7 @@ mod receive;
 mod table;
 mod text;
 
-pub use crate::comparison::compare_nfg;
+pub use crate::comparison::{CompareFault, compare_nfg};
 pub use crate::limit::ProfileCount;
 pub use crate::listed::ListedTable;
 pub use crate::read::{check_nfg, list_nfg, read_nfg};

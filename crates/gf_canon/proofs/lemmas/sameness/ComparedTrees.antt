@@ -53,14 +53,11 @@ pub no_game : (names : Names) (t : Table) (g : Game)
 no_game names t g = grind arith
 
 -- a table that was told, compared with another
-pub same_as_table : {E : Type 0} (names : Names) (t : Table) (bytes : List ℕ)
-    (r : Result (Result Bool E) Fault)
-    → IfOk r (λ compared. (u : Table) × SpellsTable bytes u × IsWithinLimit u
-    × IfOk compared (λ answer. IsTrue answer ↔ SameTable (named_by names t) (named_by names u)))
-    → IfOk r (λ compared. (y : GameFile) × SpellsWithin bytes y
-    × IfOk compared (λ answer. IsTrue answer ↔ SameBy names (strategic t) y))
-same_as_table names t bytes (Err fault) h = tt
-same_as_table Kept t bytes (Ok compared) (u, spelled, within, same) =
+pub same_as_table : (names : Names) (t : Table) (bytes : List ℕ) (answer : Bool)
+    → (u : Table) × SpellsTable bytes u × IsWithinLimit u
+    × (IsTrue answer ↔ SameTable (named_by names t) (named_by names u))
+    → (y : GameFile) × SpellsWithin bytes y × (IsTrue answer ↔ SameBy names (strategic t) y)
+same_as_table Kept t bytes answer (u, spelled, within, same) =
     (strategic u, record { spelled = spelled; within = within }, same)
-same_as_table Aside t bytes (Ok compared) (u, spelled, within, same) =
+same_as_table Aside t bytes answer (u, spelled, within, same) =
     (strategic u, record { spelled = spelled; within = within }, same)
