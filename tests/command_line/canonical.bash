@@ -56,11 +56,15 @@ state_of() { # FILE
     stat -c '%i %a %Y' "$1" && sha256sum <"$1"
 }
 
-# Files that are replaced, with their permissions and through links, and files that stay as they are.
+# Files that are replaced, with their owner and permissions and through links, and files that stay as
+# they are.
 check_rewritten() { # FOLDER
-    local folder=$1 five=$1/five.efg text=$1/text.efg refused=$1/refused.nfg before
+    local folder=$1 five=$1/five.efg text=$1/text.efg refused=$1/refused.nfg before owner
     cp "$scratch/refused.nfg" "$refused"
     chmod 640 "$five"
+    # Only root can give a file to somebody else.
+    ((EUID != 0)) || chown 65534:65534 "$five"
+    owner=$(stat -c %u:%g "$five")
     touch -d 2001-01-01 "$text" "$refused"
     before=$(state_of "$text" && state_of "$refused")
     ln -s five.efg "$folder/linked.efg"
@@ -72,6 +76,9 @@ check_rewritten() { # FOLDER
     [[ -L $folder/linked.efg && $(stat -c %a "$five") == 640 && $before == "$(state_of "$text" && state_of "$refused")" ]]
     status=$?
     judge "canon --write: the file behind a link, with its permissions, and no other" "$scratch/lines" "$nothing" 0
+    [[ $(stat -c %u:%g "$five") == "$owner" ]]
+    status=$?
+    judge "canon --write: the file stays its owner's" "$scratch/lines" "$nothing" 0
     rm "$refused"
     cp "$accepted.nfg" "$folder/other.nfg"
     run canon --write "$folder"
@@ -95,7 +102,7 @@ check_not_rewritten() { # FOLDER
     chmod 755 "$1" "$closed" && chmod 644 "$closed/five.efg"
     chmod a-w "$closed"
     run_as_nobody canon --write --explain "$closed/five.efg" "$1/missing"
-    printf '%s: E21: cannot write the output: Permission denied (os error 13)\n' "$closed/five.efg" >"$scratch/expected"
+    printf '%s: E21: cannot replace %s: Permission denied (os error 13)\n' "$closed/five.efg"{,} >"$scratch/expected"
     echo "$1/missing: E20: cannot open $1/missing: No such file or directory (os error 2)" >>"$scratch/expected"
     judge "canon --write in a folder that cannot be written" "$nothing" "$scratch/expected" 4
     cp "$closed/five.efg" "$scratch/out" && : >"$scratch/err" && status=0
@@ -121,7 +128,7 @@ check_too_long() { # FOLDER
     cp "$long" "$scratch/outcomes.nfg"
     run canon --write --explain "$folder"
     judge_refusal "canon --write of a text that is too long to be read again" \
-        "$long: E21: cannot write the output: file too large" 4
+        "$long: E21: cannot replace $long: file too large" 4
     run canon --write "$folder"
     judge_refusal "canon --write of such a text, without --explain" "$long: E21" 4
     ls -A "$folder" >"$scratch/out" && : >"$scratch/err" && status=0

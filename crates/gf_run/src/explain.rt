@@ -20,13 +20,15 @@ pub enum Cause {
     Opening(io::Error),
     /// The last error of a read or a write, if there was one.
     Transfer(Option<io::Error>),
+    /// Why a text could not take the place of the input.
+    Replacing(io::Error),
 }
 
 impl Cause {
     /// The error, if there is one.
     pub fn error(&self) -> Option<io::Error> {
         match self {
-            Cause::Opening(error) => Some(*error),
+            Cause::Opening(error) | Cause::Replacing(error) => Some(*error),
             Cause::Transfer(error) => *error,
         }
     }
@@ -88,15 +90,16 @@ pub fn explanation(
     match fault {
         RunFault::Refused { fault, .. } => refusal_explanation(alloc, fault, name, bytes),
         RunFault::Form(fault) => form_explanation(alloc, fault),
-        RunFault::Read(_) => {
-            let words = match cause {
-                Cause::Opening(_) => "cannot open ",
-                Cause::Transfer(_) => "cannot read ",
-            };
+        RunFault::Read(_) | RunFault::Write => {
             let called = shown_name(alloc, name)?;
-            failed(alloc, line, words, called.as_str(), &cause.error())
+            let (words, called) = match (fault, cause) {
+                (_, Cause::Replacing(_)) => ("cannot replace ", called.as_str()),
+                (RunFault::Write, _) => ("cannot write the output", ""),
+                (_, Cause::Opening(_)) => ("cannot open ", called.as_str()),
+                (_, Cause::Transfer(_)) => ("cannot read ", called.as_str()),
+            };
+            failed(alloc, line, words, called, &cause.error())
         }
-        RunFault::Write => failed(alloc, line, "cannot write the output", "", &cause.error()),
         RunFault::Memory => failed(alloc, line, "out of memory", "", &None),
     }
 }

@@ -44,7 +44,7 @@ impl From<Unreplaced> for Failed {
             Unreplaced::Memory => Failed::from(RunFault::Memory),
             Unreplaced::System(error) => Failed {
                 fault: RunFault::Write,
-                cause: Cause::Transfer(Some(error)),
+                cause: Cause::Replacing(error),
             },
         }
     }

@@ -8,8 +8,9 @@ use crate::streams::sink::push_all;
 use crate::streams::source::LIMIT;
 use gf_nfg::TextPieces;
 use std::alloc::AllocError;
-use std::fs::{File, Permissions};
+use std::fs::{File, Metadata};
 use std::io::ErrorKind;
+use std::os::unix::fs::{MetadataExt, fchown};
 use std::{fs, io};
 
 /// How many names are tried for the new file.
@@ -51,9 +52,18 @@ fn new_file_beside(rt: &HostRuntime, path: &str) -> Result<NewFile, Unreplaced> 
     Err(Unreplaced::System(io::Error::from(ErrorKind::AlreadyExists)))
 }
 
-/// Gives a new file its permissions and its text, unless that is longer than what the program reads.
-fn fill(file: File, permissions: Permissions, mut text: TextPieces) -> Result<(), io::Error> {
-    file.set_permissions(permissions)?;
+/// Gives a new file the owner, the group and the permissions of another. The owner and the group are
+/// those of the user where the system lets nobody else be the owner.
+fn give_to(file: &File, found: &Metadata) -> Result<(), io::Error> {
+    let (owner, group) = (Some(found.uid()), Some(found.gid()));
+    if fchown(file, owner, group).is_err() {
+        let _ = fchown(file, None, group);
+    }
+    file.set_permissions(found.permissions())
+}
+
+/// Writes a text to a file, unless it is longer than what the program reads.
+fn fill(file: File, mut text: TextPieces) -> Result<(), io::Error> {
     let mut output = Counted::new(file);
     let mut room = LIMIT;
     while text.advance() {
@@ -69,8 +79,9 @@ fn fill(file: File, permissions: Permissions, mut text: TextPieces) -> Result<()
     Ok(())
 }
 
-/// Puts a text in the place of the file of this name, through links, and with its permissions.
-/// Only a file can be replaced, no pipe or device, and only by a text that can be read again.
+/// Puts a text in the place of the file of this name, through links, and with its owner and its
+/// permissions. Only a file can be replaced, no pipe or device, and only by a text that can be read
+/// again.
 pub fn replace(rt: &HostRuntime, name: &str, text: TextPieces) -> Result<(), Unreplaced> {
     let path = fs::canonicalize(rt, name)?.into_string();
     let path = path.as_str();
@@ -80,7 +91,9 @@ pub fn replace(rt: &HostRuntime, name: &str, text: TextPieces) -> Result<(), Unr
     }
     let NewFile { path: new, file } = new_file_beside(rt, path)?;
     let new = new.as_str();
-    let done = fill(file, found.permissions(), text).and_then(|()| fs::rename(rt, new, path));
+    let done = give_to(&file, &found)
+        .and_then(|()| fill(file, text))
+        .and_then(|()| fs::rename(rt, new, path));
     if let Err(error) = done {
         let _ = fs::remove_file(rt, new);
         return Err(Unreplaced::from(error));
