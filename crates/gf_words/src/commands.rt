@@ -160,13 +160,21 @@ const FILES: Argument = Argument {
     needs: &[],
 };
 
+const CANON_FILES: Argument = Argument {
+    name: "FILES",
+    form: Form::Many("FILE|FOLDER"),
+    about: help::CANON_FILES,
+    excludes: &[],
+    needs: &[],
+};
+
 /// The commands, in the order in which help names them.
 pub static COMMANDS: [Entry; 6] = [
     Entry {
         name: "canon",
         about: help::CANON,
         after: help::AFTER_CANON,
-        arguments: &[CHECK, WRITE, NO_NAMES, EXPLAIN, QUIET, FILES],
+        arguments: &[CHECK, WRITE, NO_NAMES, EXPLAIN, QUIET, CANON_FILES],
     },
     Entry {
         name: "check",

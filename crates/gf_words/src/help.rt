@@ -36,6 +36,8 @@ pub const EXPLAIN: &str = "Explain what is wrong, and where";
 
 pub const CANON: &str = "Write the canonical text of a game file";
 
+pub const CANON_FILES: &str = "Files and folders; if none, standard input (not for --write)";
+
 pub const CANON_CHECK: &str = "Write the names of files that are not in canonical form";
 
 pub const CANON_WRITE: &str = "Replace each file by its canonical text";
@@ -59,7 +61,8 @@ files in it and below it, as for hash.
 A file that breaks the format is refused: nothing is written, and standard error
 has one line, such as E4 at 40..43, with a code and the place in bytes from 0;
 with --check or --write, the line begins with the name of the file, and the
-other files are still read. The status is 0, or 2 if a file is refused.
+other files are still read. The status is the worst of all files: 0, 2, 4 or 5,
+or 1 with --check.
 
 Examples:
   gamefile canon game.efg > canonical.efg
@@ -98,8 +101,7 @@ pub const CHECK: &str = "Say whether game files are valid, and what they hold";
 pub const AFTER_CHECK: &str = "\
 Reads the whole file, and writes tree or table. A file that breaks the format is
 refused: nothing is written, and standard error has one line, such as
-E4 at 40..43, with a code and the place in bytes from 0. The status is 0, or 2
-if the file is refused.
+E4 at 40..43, with a code and the place in bytes from 0.
 
 With several files or a folder, each file has a line that begins with its name,
 such as game.efg: tree, or on standard error game.efg: E4 at 40..43, and the
@@ -163,8 +165,9 @@ backslash or an end of line in a name, and begins the line with a backslash;
 with --zero nothing is escaped, and each line ends with NUL.
 
 A folder means all files in it and below it whose names end in .efg or .nfg, in
-upper or lower case, except hidden ones, in the order of the bytes of their
-names. Links are followed, but no folder below it is visited twice.
+upper or lower case, except hidden ones. Each folder is ordered by the bytes of
+the names in it, and the files below a folder stand where its name does. Links
+are followed, but no folder below it is visited twice.
 
 A file that is refused or cannot be read gets no line here, but one on standard
 error, such as game.efg: E4 at 40..43, and the other files are still read. The
@@ -184,8 +187,8 @@ Writes the groups of two or more files that are the same game: a name on each
 line, and an empty line between two groups. Two files are in the same group if
 'hash' writes the same hash for both, as it does if 'same' finds them the same.
 Files and folders are read, and names are written, as by 'hash', also with
---zero. A file that a folder has by two names is read once. Groups come in the
-order of their first files.
+--zero. A file that a folder holds under two names is read once. Groups come in
+the order of their first files.
 
 A file that is refused or cannot be read is in no group. Standard error has a
 line for it, such as game.efg: E4 at 40..43, and the other files are still read.
