@@ -13,7 +13,7 @@ const TABS = {
 const MOST_KEYS = 60, MOST_KEY_ACTIONS = 600;
 
 const STRATEGIES = "A strategy has the number of an action for each information set of its player, in this order. "
-    + "A * stands where the set is not reached.";
+    + "A * stands where the player's own earlier choices rule the set out.";
 
 class Views {
     // `page` has the calls and the files, and takes further ones.
@@ -76,7 +76,7 @@ class Views {
         const line = (words, value) =>
             [el("dt", {}, words), el("dd", {}, el("code", {}, value), " ", copyButton("Copy", () => value))];
         const hashes = el("dl", { class: "hashes" }, ...line("SHA-256 of the canonical text", hash),
-            ...line("The same with names set aside", plain));
+            ...line("The same without names", plain));
         const ending = file.kind === "tree" ? "efg" : "nfg";
         const bar = toolbar("Canonical text", copyButton("Copy text", () => decoded(bytes)),
             button(`Save .${ending}`, () => saveBytes(bytes, `${file.stem}-canonical.${ending}`)),
