@@ -51,16 +51,20 @@ check_page() {
     fi
 }
 
-# The hooks for pre-commit run `check` and `canon --check` on game files, and on no others.
+# The hooks for pre-commit run `check` and `canon --check` on game files, and on no others. A document
+# shows the first one.
 check_hooks() {
     local hooks=$root/.pre-commit-hooks.yaml entries files
     mapfile -t entries < <(sed -n 's/^  entry: gamefile //p' "$hooks")
     files=$(sed -n "s/^  files: '\(.*\)'$/\1/p" "$hooks" | sort -u)
-    printf '%s\n' a.efg b/c.nfg d.efg.txt efg | grep -E "$files" >"$scratch/out"
+    printf '%s\n' a.efg b/c.nfg D.EFG d.efg.txt efg | grep -E "$files" >"$scratch/out"
     : >"$scratch/err"
     status=0
-    printf '%s\n' a.efg b/c.nfg >"$scratch/expected"
+    printf '%s\n' a.efg b/c.nfg D.EFG >"$scratch/expected"
     judge "files of the hooks" "$scratch/expected" "$nothing" 0
+    sed -n '/^```yaml$/,/^```$/s/^      //p' "$root/docs/COLLECTIONS.md" >"$scratch/out"
+    sed -n '/^- id: gamefile-check$/,/^  files/p' "$hooks" >"$scratch/expected"
+    judge "the hook in docs/COLLECTIONS.md" "$scratch/expected" "$nothing" 0
     launch check --explain "$scratch/refused.nfg" 2>"$scratch/lines"
     echo "$accepted.nfg: table" >"$scratch/expected"
     # shellcheck disable=SC2086
