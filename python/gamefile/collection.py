@@ -30,9 +30,9 @@ def _identity(folder: str) -> Tuple[int, int]:
 
 
 def _paths_in(folder: str) -> List[str]:
-    """The paths of what is in a folder, ordered by the bytes of the names, the last one first."""
+    """The paths of what a folder shows, ordered by the bytes of the names, the last one first."""
     names = sorted(os.listdir(folder), key=os.fsencode, reverse=True)
-    return [os.path.join(folder, name) for name in names]
+    return [os.path.join(folder, name) for name in names if not name.startswith(".")]
 
 
 def _is_game_file(path: str) -> bool:
@@ -45,8 +45,8 @@ def game_files(folder: str) -> Iterator[str]:
     """Gives the files below a folder whose names end in .efg or .nfg, in upper or lower case.
 
     Each folder is ordered by the bytes of its names. Links are followed, but no folder is visited
-    twice, and hidden folders are passed over. A folder below that cannot be read is given too, as if
-    it were a file.
+    twice. What is hidden, by a name that begins with a full stop, is passed over. A folder below that
+    cannot be read is given too, as if it were a file.
 
     Raises OSError if the folder cannot be read.
     """
@@ -56,7 +56,7 @@ def game_files(folder: str) -> Iterator[str]:
         if not os.path.isdir(path):
             if _is_game_file(path):
                 yield path
-        elif not os.path.basename(path).startswith("."):
+        else:
             try:
                 identity = _identity(path)
                 waiting += [] if identity in visited else _paths_in(path)
@@ -83,8 +83,8 @@ def collect(
     """Returns the paths of all game files below a folder, each with its key or an error.
 
     A game file has a name that ends in .efg or .nfg, in upper or lower case. Each folder is ordered
-    by the bytes of its names. Links are followed, but no folder is visited twice, and hidden folders
-    are passed over.
+    by the bytes of its names. Links are followed, but no folder is visited twice. Pipes, sockets and
+    devices are passed over, and so is what is hidden, by a name that begins with a full stop.
 
     With an executor, its threads or processes read the files. If they are on other machines, these
     have to find the files at the same paths.

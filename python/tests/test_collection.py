@@ -69,7 +69,7 @@ def test_executors():
 
 def test_order_and_names():
     with folder_of("b.efg", "a/z.NFG", "a/y.txt", "B.efg", "é.efg", ".c.nfg", "a.efg") as folder:
-        assert names_in(folder) == [".c.nfg", "B.efg", "a/z.NFG", "a.efg", "b.efg", "é.efg"]
+        assert names_in(folder) == ["B.efg", "a/z.NFG", "a.efg", "b.efg", "é.efg"]
         assert {key for _, key, _ in gamefile.collect(folder)} == {KEY}
 
 
@@ -88,10 +88,18 @@ def test_links_are_followed_once():
         assert isinstance(gamefile.collect(folder)[-1].error, FileNotFoundError)
 
 
-def test_hidden_folders_are_passed_over_unless_named():
-    with folder_of("x.efg", ".git/y.efg") as folder:
-        assert names_in(folder) == ["x.efg"]
+def test_what_is_hidden_is_passed_over_unless_named():
+    with folder_of("x.efg", ".h.nfg", ".git/y.efg", ".git/.z.efg") as folder:
+        (folder / "link.efg").symlink_to(".h.nfg")
+        assert names_in(folder) == ["link.efg", "x.efg"]
         assert names_in(folder / ".git") == ["y.efg"]
+
+
+def test_a_name_that_is_not_utf_8_is_read():
+    name = os.fsdecode(b"\xff.efg")
+    with folder_of("a.efg", name) as folder:
+        assert [entry[1:] for entry in gamefile.collect(folder)] == [(KEY, None)] * 2
+        assert names_in(folder) == ["a.efg", name]
 
 
 def test_pipes_and_sockets_are_passed_over():

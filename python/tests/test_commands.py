@@ -171,6 +171,36 @@ def test_check_of_several_files():
             judge([command, Path(name, "empty"), good, Path(name, "mis\x1b[31msing\u0085")])
 
 
+def game_at(folder, *names):
+    """Writes a game to files of these names below a folder."""
+    for name in names:
+        path = Path(folder, name)
+        path.parent.mkdir(parents=True, exist_ok=True)
+        path.write_bytes(GAME)
+
+
+def test_what_a_folder_holds():
+    with tempfile.TemporaryDirectory() as folder:
+        game_at(folder, "b.nfg", "a/z.NFG", "a/y.txt", "B.efg", "a.efg", "é.efg", "a-b/x.efg", "d.nfg/x.efg")
+        game_at(folder, ".h.nfg", ".git/y.efg", ".git/.z.efg", "a/.x.efg", "hidden/.x.efg", "hidden/.a/x.efg")
+        links = {"f.nfg": "a.efg", "g.efg": "nowhere", "h": ".git", "i.efg": ".h.nfg", "loop": "."}
+        for name, target in links.items():
+            Path(folder, name).symlink_to(target)
+        os.mkfifo(Path(folder, "pipe.efg"))
+        named = [["."], [".h.nfg"], [".git"], ["hidden"], ["h"], [".", "."], ["a", "a/", ".git", "hidden/.a"]]
+        for command in (["check"], ["check", "--explain"], ["hash"], ["hash", "--no-names"]):
+            for names in named:
+                judge([*command, *names], cwd=folder)
+
+
+def test_names_that_are_not_utf_8():
+    with tempfile.TemporaryDirectory() as folder:
+        game_at(folder, "a.nfg", os.fsdecode(b"\xff.nfg"), os.fsdecode(b"\xff.txt"))
+        output, errors, status = ran([PROGRAM], ["check", "."], cwd=folder)
+        assert (output, errors.count(b": E20\n"), status) == (b"./a.nfg: table\n", 2, 4)
+        assert ran(PACKAGE, ["check", "."], cwd=folder) == (output + b"./\xff.nfg: table\n", b"", 0)
+
+
 def test_names_are_escaped_as_sha256sum_does():
     names = "a b", "a\nb", "a\rb", "a\\b", b"a\xffb"
     with tempfile.TemporaryDirectory() as folder:
