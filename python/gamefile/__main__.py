@@ -7,11 +7,11 @@ import os
 import sys
 from contextlib import contextmanager, suppress
 from typing import Callable, ContextManager, Iterator, List, NoReturn, Tuple, TypeVar
-from unicodedata import category
 
 from . import Error, GameFileError, TableError, __version__, _library
 from . import canonical, check, explain, key, renumbering, same, table
 from .collection import game_files
+from .errors import shown
 
 # The program reads no longer input; the library has no limit.
 LIMIT = 16_777_216
@@ -70,11 +70,6 @@ def explained(asked: bool, *files: Tuple[str, bytes]) -> Iterator[None]:
         is_second = isinstance(failure, GameFileError) and failure.which == "b"
         name, data = files[is_second] if files else ("", b"")
         raise Explained(in_words(failure, name, data), failure) from failure
-
-
-def shown(name: str) -> str:
-    """The name of a file as it may stand on a terminal: without control characters."""
-    return "".join("?" if category(character) == "Cc" else character for character in name)
 
 
 def reason(failure: OSError) -> str:

@@ -3,6 +3,7 @@ import ctypes
 import os
 from array import array
 from mmap import mmap
+from pathlib import Path
 from typing import TYPE_CHECKING, Any, Optional, Tuple, Union
 
 if TYPE_CHECKING:
@@ -31,12 +32,13 @@ class Input:
     ctypes reaches the memory of bytes, and of a buffer that can be written; others are copied.
     """
 
-    __slots__ = ("given", "length", "_view")
+    __slots__ = ("given", "length", "_source", "_view")
     #: The two arguments of a call.
     given: Tuple[Union[bytes, int], int]
 
     def __init__(self, source: Source) -> None:
         data = source if isinstance(source, bytes) else _data(source)
+        self._source = source
         self._view: Optional[memoryview] = None
         if isinstance(data, memoryview):
             if data.nbytes > 0 and data.c_contiguous and not data.readonly:
@@ -47,6 +49,12 @@ class Input:
             data = data.tobytes()
         self.length = len(data)
         self.given = data, self.length
+
+    @property
+    def path(self) -> Optional[Path]:
+        """The path of the file, or None if it was given as bytes."""
+        source = self._source
+        return Path(os.fsdecode(source)) if isinstance(source, os.PathLike) else None
 
     def before(self, place: int) -> bytes:
         """The bytes before a place."""

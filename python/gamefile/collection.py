@@ -69,7 +69,11 @@ def _entry(path: str, names: bool) -> Entry:
     file = Path(path)
     try:
         return Entry(file, key(file, names=names), None)
-    except (GameFileError, OSError, MemoryError) as error:
+    except GameFileError as refusal:
+        # What is kept of a folder holds no files.
+        refusal._keep_hint()
+        return Entry(file, None, refusal.with_traceback(None))
+    except (OSError, MemoryError) as error:
         return Entry(file, None, error)
 
 

@@ -1,11 +1,25 @@
 """What the calls raise."""
-from typing import Literal, Optional
+import os
+from pathlib import Path
+from typing import Any, Callable, Literal, Optional, Tuple, Union
+from unicodedata import category
 
-__all__ = ["Error", "GameFileError", "TableError"]
+__all__ = ["Error", "GameFileError", "TableError", "shown"]
+
+# What stands for a control character, and for a byte of a name that is not UTF-8.
+_STAND_INS = {"Cc": "?", "Cs": "\ufffd"}
+
+
+def shown(path: Union[str, "os.PathLike[str]"]) -> str:
+    """A path as it may stand on a terminal."""
+    return "".join(_STAND_INS.get(category(it), it) for it in os.fsdecode(path))
 
 
 class Error(Exception):
     """What this package raises of its own: a `GameFileError` or a `TableError`."""
+
+    #: The path of the file, or None if it was given as bytes.
+    path: Optional[Path] = None
 
 
 class GameFileError(Error, ValueError):
@@ -37,8 +51,6 @@ class GameFileError(Error, ValueError):
     column: int
     #: What is wrong, in English.
     message: str
-    #: How to fix it, or None if there is no hint.
-    hint: Optional[str]
     #: Which of two files is refused; None if there is only one.
     which: Optional[Literal["a", "b"]]
 
@@ -50,24 +62,42 @@ class GameFileError(Error, ValueError):
         line: int,
         column: int,
         message: str,
-        hint: Optional[str] = None,
+        hint: Union[str, Callable[[], Optional[str]], None] = None,
         which: Optional[Literal["a", "b"]] = None,
+        path: Optional[Path] = None,
     ) -> None:
-        # All of them are arguments, so that the exception can be sent to another process.
-        super().__init__(code, start, end, line, column, message, hint, which)
+        # A hint may be a function that finds it, and is called when it is asked for.
+        super().__init__(code, start, end, line, column, message)
         self.code = code
         self.start = start
         self.end = end
         self.line = line
         self.column = column
         self.message = message
-        self.hint = hint
         self.which = which
+        self.path = path
+        self._hint = hint
+
+    @property
+    def hint(self) -> Optional[str]:
+        """How to fix the file, as `explain` says it, or None if there is no hint."""
+        found = self._hint
+        if callable(found):
+            found = self._hint = found()
+        return found
+
+    def _keep_hint(self) -> None:
+        """Finds the hint, so that the exception keeps no part of the file for it any more."""
+        self._hint = self.hint
+
+    def __reduce__(self) -> Union[str, Tuple[Any, ...]]:
+        self._keep_hint()
+        return super().__reduce__()
 
     def __str__(self) -> str:
-        file = f"{self.which}:" if self.which else ""
-        place = f"{self.code} at {self.start}..{self.end}"
-        return f"{file}{self.line}:{self.column}: {place}: {self.message}"
+        file = self.which if self.path is None else shown(self.path)
+        line = f"{self.line}:{self.column}: {self.code} at {self.start}..{self.end}: {self.message}"
+        return f"{file}:{line}" if file else line
 
 
 class TableError(Error, ArithmeticError):
@@ -92,11 +122,15 @@ class TableError(Error, ArithmeticError):
     profile: Optional[int]
 
     def __init__(
-        self, reason: Literal["too many profiles", "overflow"], profile: Optional[int] = None
+        self,
+        reason: Literal["too many profiles", "overflow"],
+        profile: Optional[int] = None,
+        path: Optional[Path] = None,
     ) -> None:
         super().__init__(reason, profile)
         self.reason = reason
         self.profile = profile
+        self.path = path
 
     @property
     def message(self) -> str:
@@ -106,4 +140,5 @@ class TableError(Error, ArithmeticError):
         return f"the expected payoffs at profile {self.profile} cannot be worked out within 127 bits"
 
     def __str__(self) -> str:
-        return self.reason if self.profile is None else f"{self.reason} at profile {self.profile}"
+        line = self.reason if self.profile is None else f"{self.reason} at profile {self.profile}"
+        return line if self.path is None else f"{shown(self.path)}: {line}"

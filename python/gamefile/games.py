@@ -1,6 +1,7 @@
 """Questions about one game file, or about two."""
 import ctypes
 import os
+from functools import partial
 from typing import Dict, Literal, NamedTuple, Optional, Tuple
 
 from . import _library
@@ -30,18 +31,24 @@ class Renumbering(NamedTuple):
 def _refusal(
     game: Input, fault: _library.Fault, which: Optional[Literal["a", "b"]] = None
 ) -> GameFileError:
-    before = game.before(fault.start)
-    hint = _library.hint(fault.code, fault.expected)
+    read = game.before(fault.end)
     return GameFileError(
         f"E{fault.code}",
         fault.start,
         fault.end,
-        before.count(b"\n") + 1,
-        len(before) - (before.rfind(b"\n") + 1) + 1,
+        read.count(b"\n", 0, fault.start) + 1,
+        fault.start - read.rfind(b"\n", 0, fault.start),
         _library.message(fault.code, fault.expected).decode(),
-        hint.decode() if hint else None,
+        partial(_hint, read),
         which,
+        game.path,
     )
+
+
+def _hint(read: bytes) -> Optional[str]:
+    """The hint for a file that is refused at the end of these bytes, if there is one."""
+    _, found, hint = (explain(read, name="") or "").rpartition("\n  hint: ")
+    return hint.removesuffix("\n") if found else None
 
 
 def _judge(status: int, game: Input, fault: _library.Fault) -> None:
@@ -228,9 +235,9 @@ def table(data: Source, *, reduced: bool = False) -> bytes:
             room = ctypes.create_string_buffer(needed.value)
             status = _library.table(*game.given, flags, room, len(room), needed, fault, profile)
             if status == _library.TOO_MANY_PROFILES:
-                raise TableError("too many profiles")
+                raise TableError("too many profiles", None, game.path)
             if status == _library.OVERFLOW:
-                raise TableError("overflow", profile.value)
+                raise TableError("overflow", profile.value, game.path)
             if status != _library.TOO_SMALL:
                 _judge(status, game, fault)
                 return memoryview(room)[: needed.value].tobytes()

@@ -8,6 +8,7 @@ import socket
 import subprocess
 import sys
 import tempfile
+import tracemalloc
 from concurrent.futures import ProcessPoolExecutor, ThreadPoolExecutor
 from contextlib import contextmanager
 from pathlib import Path
@@ -71,6 +72,17 @@ def test_order_and_names():
     with folder_of("b.efg", "a/z.NFG", "a/y.txt", "B.efg", "é.efg", ".c.nfg", "a.efg") as folder:
         assert names_in(folder) == ["B.efg", "a/z.NFG", "a.efg", "b.efg", "é.efg"]
         assert {key for _, key, _ in gamefile.collect(folder)} == {KEY}
+
+
+def test_entries_keep_no_files():
+    with folder_of() as folder:
+        (folder / "a.nfg").write_bytes(b'NFG 1 R "%b" { "A" } { 1 } x' % (b"x" * 4_000_000))
+        tracemalloc.start()
+        [entry] = gamefile.collect(folder)
+        kept = tracemalloc.get_traced_memory()[0]
+        tracemalloc.stop()
+        assert kept < 100_000, kept
+        assert entry.error.path == entry.path and entry.error.hint == "write 3, -0.5, 1e-3 or 1/3"
 
 
 def test_an_empty_folder():

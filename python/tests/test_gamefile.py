@@ -1,8 +1,8 @@
 """Tests the package gamefile against the program: test_gamefile.py PROGRAM TESTS-FOLDER
 
-Each file of corpus/ and forms/, each row of refusals.txt, and each pair of same.txt goes through the
-package and has to give what the program writes: the same bytes, codes and places. The last line is
-'python: N passed, M failed'.
+Each file of corpus/ and forms/, each row of refusals.txt, each file of explained.txt, and each pair of
+same.txt goes through the package and has to give what the program writes: the same bytes, codes, places
+and hints. The last line is 'python: N passed, M failed'.
 """
 import doctest
 import hashlib
@@ -27,12 +27,20 @@ LOCK_TRIES = 5
 GAMES_OF_SAME = 24
 
 
+def bytes_of(text):
+    """Gives the bytes that a text stands for."""
+    return re.sub(rb"%([0-9a-f]{2})", lambda hit: bytes.fromhex(hit[1].decode()), text.encode())
+
+
 def refusals():
-    """Gives the files of refusals.txt."""
+    """Gives the files of refusals.txt, and those of explained.txt."""
     for line in (TESTS / "refusals.txt").read_text().splitlines():
         if line and not line.startswith("#"):
-            text = line.split("| ", 1)[1]
-            yield re.sub(rb"%([0-9a-f]{2})", lambda hit: bytes.fromhex(hit[1].decode()), text.encode())
+            yield bytes_of(line.split("| ", 1)[1])
+    for block in (TESTS / "explained.txt").read_text().split("\n\n"):
+        lines = [line.removeprefix("< ") for line in block.splitlines() if line.startswith("< ")]
+        if lines:
+            yield bytes_of("\n".join(lines))
 
 
 def same_games():
@@ -56,7 +64,8 @@ def by_package(call, data, **options):
         place = data[: error.start]
         if error.line != place.count(b"\n") + 1 or error.column != len(place.split(b"\n")[-1]) + 1:
             return f"line {error.line}, column {error.column}"
-        if pickle.loads(pickle.dumps(error)).args != error.args:
+        sent = pickle.loads(pickle.dumps(error))
+        if (sent.args, vars(sent)) != (error.args, vars(error)):
             return "not pickled"
         return f"{error.code} at {error.start}..{error.end}\n"
     except gamefile.TableError as error:
@@ -69,13 +78,29 @@ def told(data):
     return text if isinstance(text, str) else None
 
 
+def hint_of(data):
+    """Gives the hint of a file that is refused, or None."""
+    try:
+        gamefile.check(data)
+    except gamefile.GameFileError as error:
+        return error.hint
+    return None
+
+
+def hint_in(words):
+    """Gives the hint in what the program writes about a file, or None."""
+    found = re.search(r"^  hint: (.+)$", words or "", re.MULTILINE)
+    return found and found[1]
+
+
 def judge_file(data):
     """Gives the names of the calls that do not answer as the program."""
-    text = by_program(["canon"], data)
+    text, words = by_program(["canon"], data), told(data)
     kind = by_package(gamefile.check, data)
     expected = {
         "check": (f"{kind}\n".encode() if kind in ("tree", "table") else kind, by_program(["check"], data)),
-        "explain": (gamefile.explain(data, name="<stdin>"), told(data)),
+        "explain": (gamefile.explain(data, name="<stdin>"), words),
+        "hint": (hint_of(data), hint_in(words)),
         "canonical": (by_package(gamefile.canonical, data), text),
         "table": (by_package(gamefile.table, data), by_program(["table"], data)),
         "reduced": (

@@ -20,6 +20,18 @@ import gamefile
 TREE = b'EFG 2 R "toss" { "A" } c "" 9 "coin" { "h" 0.5 "t" 2/4 } 0 t "" 7 "win" { 1e0 } t "" 7'
 TABLE = b'NFG 1 R "x" { "A" } { 2 } 0.5 4/2'
 REFUSED = b'NFG 1 R "x" { "A" }\n{ 2 } 0.5 two'
+TABLELESS = b'EFG 2 R "" { "A" } p "" 1 1 "" { "x" } 1 "" { %d } t "" 1' % (2**127 - 1)
+# The same code and the same expectation have another hint in another file.
+HINTS = {
+    REFUSED: "write 3, -0.5, 1e-3 or 1/3",
+    b'EFG 2 R "" { "A" } t "" 0 t "" 0': "the game is already complete here",
+    b'EFG 2 R "" { "A" } t "" 0 "o" { 1 2 }': "outcome 0 takes no description",
+    b'EFG 2 R "" { "A" } p "" 1 1 "" { "x" } 0 P "" 1': "each action needs a subtree",
+    b'EFG 2 R "" { "A" } P "" 1 1 0': "the tree begins here, after the players and at most one comment",
+    b'\xef\xbb\xbfNFG 1 R "" { } { }': "the file begins with a byte order mark; save it as UTF-8 without one",
+    'NFG 1 R “x” { } { }'.encode(): 'texts stand in straight quotation marks, as in "A"',
+    b'NFG 1 R "" { "A" } { 1 } 1/0': None,
+}
 FILES = [TREE, TABLE, REFUSED, b""]
 LARGE = b'NFG 1 R "%b" { "A" } { 1 } 0' % (b"x" * 4_000_000)
 CALLS = [
@@ -80,7 +92,7 @@ def answer(call, *sources):
     try:
         return call(*sources)
     except gamefile.Error as error:
-        return type(error), error.args
+        return type(error), error.args, getattr(error, "hint", None), getattr(error, "which", None)
 
 
 def raised(kind, call, *sources):
@@ -133,6 +145,65 @@ def test_an_exception_keeps_no_buffer():
     data.append(0)
     file.close()
     assert [error.line for error in kept] == [2, 2]
+
+
+def test_a_hint_is_that_of_the_explanation():
+    for data, hint in HINTS.items():
+        told = gamefile.explain(data).splitlines()[-1]
+        assert raised(gamefile.GameFileError, gamefile.check, data).hint == hint, data
+        assert told == f"  hint: {hint}" if hint else "  hint: " not in told
+
+
+def test_a_hint_outlives_its_file():
+    for data, hint in HINTS.items():
+        buffer, path = bytearray(data), saved(data)
+        kept = [raised(gamefile.GameFileError, gamefile.check, source) for source in (buffer, path)]
+        buffer[:] = b"x"
+        path.unlink()
+        sent = [pickle.loads(pickle.dumps(error)) for error in kept]
+        assert [error.hint for error in (*sent, *kept)] == [hint] * 4, data
+
+
+def test_an_error_names_its_file():
+    path, other = saved(REFUSED), saved(TREE)
+    for call in CALLS[:-1]:
+        error = raised(gamefile.GameFileError, call, path)
+        assert error.path == path and str(error) == f"{path}:2:11: E4 at 30..33: this is not a number"
+        assert raised(gamefile.GameFileError, call, OtherPath(path)).path == path
+        error = raised(gamefile.GameFileError, call, REFUSED)
+        assert error.path is None and str(error) == "2:11: E4 at 30..33: this is not a number"
+    for call in CALLS_OF_TWO:
+        for a, b, which in ((path, other, "a"), (other, path, "b"), (TREE, path, "b"), (path, path, "a")):
+            error = raised(gamefile.GameFileError, call, a, b)
+            assert (error.path, error.which) == (path, which) and str(error).startswith(f"{path}:2:11: E4 at ")
+        error = raised(gamefile.GameFileError, call, REFUSED, other)
+        assert (error.path, error.which) == (None, "a") and str(error).startswith("a:2:11: E4 at ")
+
+
+def test_a_tree_without_a_table_is_named():
+    path = saved(TABLELESS)
+    error = raised(gamefile.TableError, gamefile.table, path)
+    assert error.path == path and str(error) == f"{path}: overflow at profile 1"
+    error = raised(gamefile.TableError, gamefile.table, TABLELESS)
+    assert error.path is None and str(error) == "overflow at profile 1"
+
+
+def test_a_path_is_shown_as_in_explanations():
+    for name in ("a b\x1b[31m", "ü\u0085\n", os.fsdecode(b"a\xffb")):
+        path = Path(FOLDER.name, name)
+        path.write_bytes(REFUSED)
+        error = raised(gamefile.GameFileError, gamefile.check, path)
+        place = str(error).split(": ")[0]
+        assert error.path == path and place.isprintable() and gamefile.explain(path).startswith(f"{place}: E4")
+
+
+def test_errors_can_be_sent():
+    paths = saved(REFUSED), saved(TABLELESS)
+    for source in (REFUSED, TABLELESS, *paths):
+        error = raised(gamefile.Error, gamefile.table, source)
+        sent = pickle.loads(pickle.dumps(error))
+        assert (type(sent), str(sent), vars(sent)) == (type(error), str(error), vars(error))
+        assert sent.path == (source if source in paths else None)
 
 
 def test_a_view_stays_that_of_its_caller():

@@ -33,11 +33,13 @@ def take_errors(game: bytes) -> str:
     try:
         gamefile.table(game)
     except gamefile.GameFileError as error:
-        return f"{error.code} at {error.start}..{error.end}: {error.message}, {error.hint or ''}"
+        place = gamefile.explain(error.path) if error.path else f"{error.start}..{error.end}"
+        return f"{place}, {error.code}: {error.message}, {error.hint or ''}"
     except gamefile.TableError as error:
         return f"{error.reason}, {(error.profile or 0) + 1}"
-    except gamefile.Error:
-        return gamefile.__version__
+    except gamefile.Error as error:
+        path: Optional[Path] = error.path
+        return gamefile.__version__ if path is None else path.name
     return ""
 
 
