@@ -213,9 +213,6 @@ const char *gamefile_message(uint32_t code, uint32_t expected)
 
 const char *gamefile_hint(uint32_t code, uint32_t expected)
 {
-    if (code == 3 && expected == GAMEFILE_WHAT_NODE)
-        return "each action needs a subtree";
-    if (code == 3 && expected == GAMEFILE_WHAT_END)
-        return "the game is already complete here";
+    (void)expected; /* Where the same is expected, files still need different hints. */
     return text_at(hints, sizeof hints / sizeof *hints, code);
 }

@@ -133,8 +133,9 @@ gamefile_status gamefile_renumbering(const uint8_t *a, size_t an, const uint8_t 
                                      gamefile_pair *out, size_t cap, size_t *needed,
                                      gamefile_fault *fault, int *which);
 
-/* What a code means, in English; and how to fix the file, or NULL if there is no hint. Do not free
- * these texts. */
+/* What a code means, in English; and a hint that is true wherever the code occurs, or NULL if there
+ * is none, as for the code 3. gamefile_explain looks at the file too, so it has more hints, and
+ * better ones. Do not free these texts. */
 const char *gamefile_message(uint32_t code, uint32_t expected);
 const char *gamefile_hint(uint32_t code, uint32_t expected);
 

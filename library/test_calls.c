@@ -374,6 +374,8 @@ static void try_layer(score *s)
                   && strstr(gamefile_message(14, 0), "cannot be worked out within 127 bits") != NULL, "message",
            "sentences");
     expect(s, gamefile_hint(5, 0) == NULL && gamefile_hint(13, 0) != NULL, "hint", "hints");
+    expect(s, gamefile_hint(3, GAMEFILE_WHAT_NODE) == NULL && gamefile_hint(3, GAMEFILE_WHAT_END) == NULL,
+           "hint", "no hint that another one may contradict");
 }
 
 static void *try_all(void *to)
