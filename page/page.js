@@ -115,7 +115,7 @@ class Page {
 
     async explained(file, bytes, refusal) {
         try {
-            const explanation = await this.calls.run(null, "explain", bytes, refusal, file.name);
+            const explanation = await this.calls.run(null, "explain", bytes, file.name);
             return { state: "refused", refusal, explanation };
         } catch (error) {
             return { state: "failed", failure: error };

@@ -65,10 +65,7 @@ async function allAnswers() {
 // The explanation of each file, all of which are refused, under its name.
 async function explanations(names) {
     const files = await chosen();
-    return Promise.all(files.map(async (file, index) => {
-        const refusal = await engine.check(file).catch(error => error);
-        return engine.explain(file, refusal, names[index]);
-    }));
+    return Promise.all(files.map((file, index) => engine.explain(file, names[index])));
 }
 
 // The milliseconds that a check of the first file takes, by many that are asked at once.
