@@ -91,7 +91,7 @@ gamefile_status gamefile_check(const uint8_t *in, size_t n, gamefile_kind *kind,
 /* Explains in words why a file is refused, as the program does with --explain: the text has the line
  * and the column, the code and the place, what is wrong, the line of the file with marks under the
  * place, and often a hint. Each line ends with a line feed, and there are no other control
- * characters.
+ * characters, and none that sets the direction of a text.
  *
  * The text begins with `name`, a string in UTF-8; NULL stands for "<input>". After GAMEFILE_REFUSED
  * it is in the buffer, and `needed` is its length; after GAMEFILE_TOO_SMALL `needed` is the length

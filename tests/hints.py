@@ -18,7 +18,8 @@ OF_CODES = {
 }
 NAME = 'a name comes before the braces, perhaps ""'
 COMMENT = "a file has one comment, and this would be a second one"
-EACH = "give one payoff (or number of strategies) for each player"
+PAYOFFS = "give one payoff for each player"
+COUNTS = "give one number of strategies for each player"
 LISTS = "give one list of strategies for each player"
 FORMATS = [
     (rb"\xef\xbb\xbf", "the file begins with a byte order mark; save it as UTF-8 without one"),
@@ -120,13 +121,13 @@ def of_number(scene):
             return f"the body needs {needed}; it has {numbers}"
         return COMMENT if kind == "text" and scene.follows("text") else None
     if "payoffs" in calls:
-        return EACH if kind == "}" else None
+        return PAYOFFS if kind == "}" else None
     return "each action of a chance move has a probability" if kind in ("text", "}") else None
 
 
 def of_index(scene):
     if "strategies" in scene.calls and scene.token.kind == "}":
-        return EACH
+        return COUNTS
     if "outcome_rows" in scene.calls and scene.token.kind == "end":
         rows = scene.calls["outcome_rows"]
         needed = f"{rows['profiles']} numbers of outcomes (one for each profile)"
@@ -138,14 +139,14 @@ def of_closing(scene):
     if "known_actions" in scene.calls:
         return None
     if re.match(rb"[0-9.+-]", scene.token.spelled):
-        return EACH
+        return PAYOFFS if "payoffs" in scene.calls else COUNTS
     return LISTS if scene.token.kind == "{" and "payoffs" not in scene.calls else None
 
 
 def of_expected(scene):
     if scene.token.kind == ",":
         if scene.follows("text") and scene.depth() > 0:
-            return "no comma stands after a label"
+            return "remove the comma: labels are separated by spaces"
         return "a comma may stand only after a payoff in braces; decimals have a point"
     if scene.refusal.due == "Format":
         return first_of(FORMATS, scene.token.spelled)

@@ -8,11 +8,15 @@ __all__ = ["Error", "GameFileError", "TableError", "shown"]
 
 # What stands for a control character, and for a byte of a name that is not UTF-8.
 _STAND_INS = {"Cc": "?", "Cs": "\ufffd"}
+# Unicode's property Bidi_Control: characters that set the direction of a text.
+_DIRECTIONS = "\u061c\u200e\u200f\u202a\u202b\u202c\u202d\u202e\u2066\u2067\u2068\u2069"
 
 
 def shown(path: Union[str, "os.PathLike[str]"]) -> str:
     """A path as it may stand on a terminal."""
-    return "".join(_STAND_INS.get(category(it), it) for it in os.fsdecode(path))
+    return "".join(
+        "?" if it in _DIRECTIONS else _STAND_INS.get(category(it), it) for it in os.fsdecode(path)
+    )
 
 
 class Error(Exception):

@@ -168,7 +168,7 @@ def test_check_of_several_files():
         assert judge(["check", good, bad]) == judge(["check", name]) == expected
         Path(name, "empty").mkdir()
         for command in ("check", "hash"):
-            judge([command, Path(name, "empty"), good, Path(name, "mis\x1b[31msing\u0085")])
+            judge([command, Path(name, "empty"), good, Path(name, "mis\x1b[31msing\u0085\u202e")])
 
 
 def game_at(folder, *names):

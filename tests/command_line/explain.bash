@@ -9,9 +9,9 @@ check_explain() {
         run "$command" --explain "$missing"
         judge_refusal "$command --explain of a missing file" "$words" 4
     done
-    run check --explain "$scratch/"$'missing\e[31m\t\xc2\x9b.efg'
+    run check --explain "$scratch/"$'missing\e[31m\t\xc2\x9b\xe2\x80\xae.efg'
     judge_refusal "check --explain of a name with control characters" \
-        "E20: cannot open $scratch/missing?[31m??.efg: No such file or directory (os error 2)" 4
+        "E20: cannot open $scratch/missing?[31m???.efg: No such file or directory (os error 2)" 4
     cp "$b" "$scratch/"$'refused\e[31m\n\t.nfg'
     run check --explain "$scratch/"$'refused\e[31m\n\t.nfg'
     judge_refusal "check --explain of a file whose name has control characters" \

@@ -1,2 +1,3 @@
+mod Obeyed
 mod Places
 mod ShownTexts

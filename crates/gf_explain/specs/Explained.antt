@@ -30,7 +30,8 @@ pub record IsSaidAfter (line text : List ℕ) : Type 0 where
   pub is_text : text ≡ line ++ codes ": " ++ rest
 
 -- an explanation of the refusal of the file with this name and these bytes: its first line has the
--- place, and then the line of the refusal. No control characters of the name or the file are shown.
+-- place, and then the line of the refusal. No character of the name or the file is shown that a
+-- terminal obeys.
 pub record IsExplained (fault : Fault) (name bytes text : List ℕ) : Type 0 where
   pub head : List ℕ
   pub is_where : IsWhere fault (shown_name name) bytes head

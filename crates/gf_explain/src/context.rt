@@ -143,6 +143,11 @@ impl<'a> Context<'a> {
         self.ends_in_text() && after_group && self.open == 0
     }
 
+    /// Whether the strategies of a strategic file are begun and not complete.
+    pub fn is_in_strategies(&self) -> bool {
+        !self.is_tree && self.groups == 1
+    }
+
     /// Whether the outcomes of a strategic file are complete.
     pub fn has_outcomes(&self) -> bool {
         self.groups > 2

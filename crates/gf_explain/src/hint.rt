@@ -10,10 +10,11 @@ fn about_value(mistake: &Mistake) -> &'static str {
     match mistake {
         Mistake::NoName => "a name comes before the braces, perhaps \"\"",
         Mistake::NullOutcome => "outcome 0 takes no description",
-        Mistake::NotOneForEach => "give one payoff (or number of strategies) for each player",
+        Mistake::NotOnePayoff => "give one payoff for each player",
+        Mistake::NotOneCount => "give one number of strategies for each player",
         Mistake::NotOneListForEach => "give one list of strategies for each player",
         Mistake::NoProbability => "each action of a chance move has a probability",
-        Mistake::CommaAfterLabel => "no comma stands after a label",
+        Mistake::CommaAfterLabel => "remove the comma: labels are separated by spaces",
         Mistake::Comma => {
             "a comma may stand only after a payoff in braces; decimals have a point"
         }

@@ -44,8 +44,10 @@ pub enum Mistake {
         profiles: usize,
         found: usize,
     },
-    /// Too few or too many payoffs in braces, or numbers of strategies.
-    NotOneForEach,
+    /// Too few or too many payoffs in braces.
+    NotOnePayoff,
+    /// Too few or too many numbers of strategies.
+    NotOneCount,
     /// Too few or too many lists of strategies.
     NotOneListForEach,
     NoProbability,
@@ -228,7 +230,7 @@ fn of_number(refusal: &Refusal<'_>) -> Option<Mistake> {
     } else if is_text && context.ends_in_comment() {
         Some(Mistake::SecondComment)
     } else if is_closing && context.open > 0 {
-        Some(Mistake::NotOneForEach)
+        Some(Mistake::NotOnePayoff)
     } else {
         of_body(refusal)
     }
@@ -247,8 +249,10 @@ fn of_closing(refusal: &Refusal<'_>) -> Option<Mistake> {
     let context = refusal.context;
     let is_in_actions = context.is_tree
         && (context.ends_in_text() || context.ends_in_text_and_bare());
-    if is_numeric(refusal.found) && !is_in_actions {
-        Some(Mistake::NotOneForEach)
+    if is_numeric(refusal.found) && context.is_in_strategies() {
+        Some(Mistake::NotOneCount)
+    } else if is_numeric(refusal.found) && !is_in_actions {
+        Some(Mistake::NotOnePayoff)
     } else if is_one(refusal.found, b'{') && !context.is_tree && context.open == 1 {
         Some(Mistake::NotOneListForEach)
     } else {
@@ -263,7 +267,7 @@ fn of_early_closing(what: What, refusal: &Refusal<'_>) -> Option<Mistake> {
         return None;
     }
     match what {
-        What::Index => Some(Mistake::NotOneForEach),
+        What::Index => Some(Mistake::NotOneCount),
         _ => Some(Mistake::NotOneListForEach),
     }
 }

@@ -1,15 +1,15 @@
 //! Bytes of a file as a terminal may show them.
 
 ghost use Rattle.std.specs.Prelude.{◌≡◌, IfOk, false};
-ghost use Rattle.std.specs.Char.{is_control};
 ghost use Rattle.std.specs.String.{string_bytes};
-ghost use Rattle.gf_explain.specs.Shown.{IsShown, shown_character, shown_name};
+ghost use Rattle.gf_explain.specs.Shown.{IsShown, is_obeyed, shown_character, shown_name};
 
 use std::alloc::{AllocError, Global};
 use std::marker::Model;
+use ucd_props::is_bidi_control;
 use unicode_width::UnicodeWidthChar;
 
-/// A text in which no control character stands but line feeds.
+/// A text in which no character stands that a terminal obeys but line feeds.
 #[derive(Drop)]
 pub struct ShownText {
     text: String,
@@ -60,7 +60,7 @@ impl ShownText {
 #[derive(Clone, Copy)]
 pub enum Part<'a> {
     /// These bytes as text, with a space in place of a tab, and `?` in place of other control
-    /// characters and of what is not UTF-8.
+    /// characters, of those that set the direction of a text, and of what is not UTF-8.
     Shown(&'a [u8]),
     /// This mark for each column that these bytes take when they are shown.
     Marks(&'a [u8], char),
@@ -70,7 +70,7 @@ pub enum Part<'a> {
 fn shown_in_name(character: char) -> char
     ensures { result ≡ shown_character character }
 {
-    if character.is_control() {
+    if character.is_control() || is_bidi_control(character) {
         '?'
     } else {
         character
@@ -79,7 +79,7 @@ fn shown_in_name(character: char) -> char
 
 /// What is shown of a character of a file.
 fn shown(character: char) -> char
-    ensures { is_control result ≡ false }
+    ensures { is_obeyed result ≡ false }
 {
     if character == '\t' {
         ' '
