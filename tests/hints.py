@@ -20,6 +20,8 @@ NAME = 'a name comes before the braces, perhaps ""'
 COMMENT = "a file has one comment, and this would be a second one"
 PAYOFFS = "give one payoff for each player"
 COUNTS = "give one number of strategies for each player"
+CAPITAL = "write it in capital letters"
+CHANCE = "only the actions of chance moves have probabilities"
 LISTS = "give one list of strategies for each player"
 FORMATS = [
     (rb"\xef\xbb\xbf", "the file begins with a byte order mark; save it as UTF-8 without one"),
@@ -28,14 +30,20 @@ FORMATS = [
         "the file seems to be UTF-16; save it as UTF-8 without a byte order mark",
     ),
     (rb"<\?xml", "this is XML, perhaps a workbook of Gambit (.gbt); save its game as .efg or .nfg"),
+    (rb"(?i:[EN]FG)\Z", CAPITAL),
     (rb"#B?AGG\Z", "this is an action graph game (.agg, .bagg), which gamefile does not read"),
 ]
 SPELLINGS = [
     (
-        rb"//|/\*",
+        rb"//|/\*|#",
         "a file has one comment, a text in double quotes after the players (EFG) or the strategies (NFG)",
     ),
-    (rb"\xe2\x80[\x98-\x9f]|\xc2\xab", 'texts stand in straight quotation marks, as in "A"'),
+    (rb"\xe2\x80[\x98-\x9f]|\xc2\xab|['`]", 'texts stand in straight double quotes, as in "A"'),
+    (
+        rb"\xe2\x80[\x90-\x95]|\xe2\x88\x92",
+        "this begins with a dash or a minus sign that is not - (U+2212, or U+2010 to U+2015)",
+    ),
+    (rb'[^"]*\xc2\xa0', "this has a no-break space (U+00A0) in it; write a space"),
 ]
 
 
@@ -61,8 +69,35 @@ class Scene:
     def follows(self, kind):
         return bool(self.before) and self.before[-1][0] == kind
 
+    def ends_in_value(self):
+        """Whether the last token is a payoff or a probability."""
+        lists = {"payoffs", "flat_row", "new_actions", "known_actions"}
+        is_body = self.refusal.due == "End" and self.calls["game"]["kind"] == "table" and self.groups() == 2
+        return self.follows("bare") and (is_body or not lists.isdisjoint(self.calls))
+
+    def groups(self):
+        """How many lists are closed that stand in no other."""
+        depth = closed = 0
+        for _, spelled, _ in self.before:
+            depth += {b"{": 1, b"}": -1}.get(spelled, 0)
+            closed += spelled == b"}" and depth == 0
+        return closed
+
     def depth(self):
         return sum({b"{": 1, b"}": -1}.get(spelled, 0) for _, spelled, _ in self.before)
+
+    def is_numeric(self):
+        return re.match(rb"[0-9.+-]", self.token.spelled) is not None
+
+
+def of_token(scene):
+    """The hint about the spelling of the token."""
+    spelled = scene.token.spelled
+    hint = first_of(FORMATS, spelled) if scene.refusal.due == "Format" else None
+    hint = hint or first_of(SPELLINGS, spelled)
+    if not hint and spelled.startswith(b"/") and scene.ends_in_value():
+        return "a fraction has no spaces in it, as in 1/2"
+    return hint
 
 
 def of_text_before(scene):
@@ -135,10 +170,21 @@ def of_index(scene):
     return None
 
 
+def of_action(scene):
+    """The hint about a number where an action or the end of the actions is due."""
+    return CHANCE if scene.is_numeric() and scene.calls["infoset"]["player"] else None
+
+
+def of_text(scene):
+    if "infoset" in scene.calls:
+        return of_action(scene)
+    return 'a node\'s name comes after its letter, perhaps ""' if "node" in scene.calls else None
+
+
 def of_closing(scene):
     if "known_actions" in scene.calls:
-        return None
-    if re.match(rb"[0-9.+-]", scene.token.spelled):
+        return of_action(scene)
+    if scene.is_numeric():
         return PAYOFFS if "payoffs" in scene.calls else COUNTS
     return LISTS if scene.token.kind == "{" and "payoffs" not in scene.calls else None
 
@@ -148,18 +194,19 @@ def of_expected(scene):
         if scene.follows("text") and scene.depth() > 0:
             return "remove the comma: labels are separated by spaces"
         return "a comma may stand only after a payoff in braces; decimals have a point"
-    if scene.refusal.due == "Format":
-        return first_of(FORMATS, scene.token.spelled)
+    if scene.refusal.due == "Letter":
+        return CAPITAL if scene.token.spelled in (b"r", b"d") else None
     if scene.refusal.due == "Opening":
         return LISTS if "strategies" in scene.calls and scene.token.kind == "}" else None
-    of = {"Node": of_node, "End": of_end, "Number": of_number, "Index": of_index, "Closing": of_closing}
+    of = {"Node": of_node, "End": of_end, "Number": of_number, "Closing": of_closing}
+    of |= {"Text": of_text, "Count": of_index, "ProfileOutcome": of_index}
     return of.get(scene.refusal.due, lambda _: None)(scene)
 
 
 def hint_at(scene):
     code, hint = scene.refusal.code, None
     if code in OF_FORM:
-        hint = first_of(SPELLINGS, scene.token.spelled) or of_text_before(scene)
+        hint = of_token(scene) or of_text_before(scene)
     if hint or code != 9:
         return hint or (of_expected(scene) if code == 3 else OF_CODES.get(code))
     return NAME if scene.token.kind == "{" else None

@@ -28,7 +28,7 @@ NUMBER = re.compile(
 
 
 class Refusal(Exception):
-    """The code of a refusal, its place, and what an E3 says was expected."""
+    """The code of a refusal, its place, and what was expected for E3, and for E7."""
 
     def __init__(self, code, start, end, due=None):
         super().__init__(code, start, end, due)
@@ -120,12 +120,12 @@ class Reader:
             self.refuse(3, due)
         return self.advance()
 
-    def index(self, least=0):
+    def index(self, due, least=0):
         if self.token.kind != "bare":
-            self.refuse(3, "Index")
+            self.refuse(3, due)
         digits = self.token.spelled
         if not digits.isdigit() or not least <= whole(digits) <= LARGEST_INDEX:
-            self.refuse(7)
+            self.refuse(7, due)
         return whole(digits)
 
     def number(self):
@@ -220,7 +220,7 @@ class Reader:
                 if not labels:
                     self.refuse(15)
             else:
-                labels = range(1, self.index(1) + 1)
+                labels = range(1, self.index("Count", 1) + 1)
             profiles *= len(labels)
             if profiles > MOST_PROFILES:
                 self.refuse(18)
@@ -245,7 +245,7 @@ class Reader:
         self.advance()
         rows = []
         for _ in range(profiles):
-            number = self.index()
+            number = self.index("ProfileOutcome")
             if number >= len(outcomes):
                 self.refuse(16)
             self.advance()
@@ -271,7 +271,7 @@ class Reader:
         self.word([b"c", b"p", b"t"], "Node")
         line += [letter, Name(self.take("text", "Text"))]
         if letter == b"p":
-            player = self.index(1)
+            player = self.index("Player", 1)
             if player > len(self.players):
                 self.refuse(8)
             self.advance()
@@ -287,7 +287,7 @@ class Reader:
         return spelled(self.counts[owner])
 
     def infoset(self, player, line):
-        number = self.index(1)
+        number = self.index("Set", 1)
         self.advance()
         if (player, number) in self.sets:
             place, name, actions = self.sets[player, number]
@@ -360,7 +360,7 @@ class Reader:
         self.take("}", "Closing")
 
     def outcome(self, line):
-        number = self.index()
+        number = self.index("NodeOutcome")
         self.advance()
         if number == 0:
             line.append(b"0")

@@ -2,6 +2,17 @@
 
 use gf_token::{Cursor, Kind, Token, read_index};
 
+/// A number that is neither a payoff nor a probability.
+#[derive(Clone, Copy)]
+pub enum Index {
+    Player,
+    InformationSet,
+    NodeOutcome,
+    /// How many strategies a player has.
+    Strategies,
+    ProfileOutcome,
+}
+
 /// What stands before the token at which a file is refused. Nothing of it is refused.
 #[derive(Clone, Copy)]
 pub struct Context<'a> {
@@ -21,6 +32,10 @@ pub struct Context<'a> {
     /// How many bare tokens stand behind the players, outside braces: in a strategic file, these
     /// are the numbers of the body.
     pub numbers: usize,
+    /// Of a tree, the letter of the node that was begun last, and 0 before the first.
+    letter: u8,
+    /// How many numbers of this node are read, as if each began with those of a player and a set.
+    read: usize,
 }
 
 /// Whether a token is this word.
@@ -43,6 +58,8 @@ impl<'a> Context<'a> {
             profiles: 1,
             labels: 0,
             numbers: 0,
+            letter: 0,
+            read: 0,
         }
     }
 
@@ -104,21 +121,88 @@ impl<'a> Context<'a> {
             Ok(count) if is_count => count as usize,
             _ => 1,
         };
+        let node = if is_number { self.in_node(bytes) } else { self };
         Context {
             profiles: self.profiles.saturating_mul(count),
             numbers: self.numbers.saturating_add(usize::from(is_number)),
-            ..self
+            ..node
         }
+    }
+
+    /// What stands after the letter or a number of a node.
+    fn in_node(self, bytes: &[u8]) -> Context<'a> {
+        match bytes {
+            b"p" => Context {
+                letter: b'p',
+                read: 0,
+                ..self
+            },
+            b"c" => Context {
+                letter: b'c',
+                read: 1,
+                ..self
+            },
+            b"t" => Context {
+                letter: b't',
+                read: 2,
+                ..self
+            },
+            _ => Context {
+                read: self.read.saturating_add(1),
+                ..self
+            },
+        }
+    }
+
+    /// The number that is due, where one is due.
+    pub fn due(&self) -> Index {
+        if self.is_in_strategies() {
+            Index::Strategies
+        } else if !self.is_tree {
+            Index::ProfileOutcome
+        } else {
+            match self.read {
+                0 => Index::Player,
+                1 => Index::InformationSet,
+                _ => Index::NodeOutcome,
+            }
+        }
+    }
+
+    /// Whether the number of a set is the last one of its node so far.
+    pub fn is_at_set(&self) -> bool {
+        self.is_tree && self.groups > 0 && self.letter != b't' && self.read == 2
+    }
+
+    /// Whether the actions of a set are begun and not complete.
+    pub fn is_in_actions(&self) -> bool {
+        self.is_at_set() && self.open == 1
+    }
+
+    /// Whether the last token is the letter of a node.
+    pub fn ends_in_letter(&self) -> bool {
+        let is_at_node = self.is_tree && self.numbers > 0 && self.open == 0;
+        is_at_node && matches!(self.last_bare(), Some(b"c" | b"p" | b"t"))
+    }
+
+    /// Whether the last token is a payoff or a probability.
+    pub fn ends_in_value(&self) -> bool {
+        let has_values = if self.is_tree {
+            self.open > 0
+        } else {
+            self.groups == 2
+        };
+        has_values && self.last_bare().is_some()
+    }
+
+    /// Whether the node that was begun last is one of chance.
+    pub fn is_chance(&self) -> bool {
+        self.letter == b'c'
     }
 
     /// Whether the last token is a text.
     pub fn ends_in_text(&self) -> bool {
         is_text(self.last)
-    }
-
-    /// Whether the last token is bare, and the one before it a text.
-    pub fn ends_in_text_and_bare(&self) -> bool {
-        is_text(self.second_last) && self.last_bare().is_some()
     }
 
     /// The last token if it is bare.

@@ -9,11 +9,14 @@ use std::alloc::AllocError;
 fn about_value(mistake: &Mistake) -> &'static str {
     match mistake {
         Mistake::NoName => "a name comes before the braces, perhaps \"\"",
+        Mistake::NoNodeName => "a node's name comes after its letter, perhaps \"\"",
+        Mistake::ApartFraction => "a fraction has no spaces in it, as in 1/2",
         Mistake::NullOutcome => "outcome 0 takes no description",
         Mistake::NotOnePayoff => "give one payoff for each player",
         Mistake::NotOneCount => "give one number of strategies for each player",
         Mistake::NotOneListForEach => "give one list of strategies for each player",
         Mistake::NoProbability => "each action of a chance move has a probability",
+        Mistake::PlayersProbability => "only the actions of chance moves have probabilities",
         Mistake::CommaAfterLabel => "remove the comma: labels are separated by spaces",
         Mistake::Comma => {
             "a comma may stand only after a payoff in braces; decimals have a point"
@@ -40,11 +43,16 @@ fn words_of(mistake: &Mistake) -> &'static str {
         Mistake::ActionGraph => {
             "this is an action graph game (.agg, .bagg), which gamefile does not read"
         }
-        Mistake::SlashComment => {
+        Mistake::OtherComment => {
             "a file has one comment, a text in double quotes after the players (EFG) or the \
             strategies (NFG)"
         }
-        Mistake::TypographicQuotes => "texts stand in straight quotation marks, as in \"A\"",
+        Mistake::OtherQuotes => "texts stand in straight double quotes, as in \"A\"",
+        Mistake::OtherMinus => {
+            "this begins with a dash or a minus sign that is not - (U+2212, or U+2010 to U+2015)"
+        }
+        Mistake::NoBreakSpace => "this has a no-break space (U+00A0) in it; write a space",
+        Mistake::SmallLetter => "write it in capital letters",
         Mistake::LoneQuote => {
             "a quotation mark inside a label is written \\\" ; a label cannot end in a backslash"
         }

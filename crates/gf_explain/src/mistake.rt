@@ -11,9 +11,17 @@ pub enum Mistake {
     Utf16,
     Xml,
     ActionGraph,
-    /// A comment of another language, as with `//`.
-    SlashComment,
-    TypographicQuotes,
+    /// A comment of another language, as with `//` or `#`.
+    OtherComment,
+    /// Quotation marks that are typographic or single.
+    OtherQuotes,
+    /// A dash or a minus sign that is not the one of ASCII.
+    OtherMinus,
+    NoBreakSpace,
+    /// A small letter where a capital is due.
+    SmallLetter,
+    /// A fraction with spaces in it.
+    ApartFraction,
     /// A backslash escapes the quotation mark that was meant to end the text that begins here.
     EscapedQuote(Place),
     /// The text that begins here and has so many lines goes on up to the quotation mark of another.
@@ -22,6 +30,8 @@ pub enum Mistake {
     LoneQuote,
     /// A set or an outcome that is described without its name.
     NoName,
+    /// A node without its name.
+    NoNodeName,
     /// A description of outcome 0.
     NullOutcome,
     SecondComment,
@@ -51,6 +61,8 @@ pub enum Mistake {
     /// Too few or too many lists of strategies.
     NotOneListForEach,
     NoProbability,
+    /// A probability of a player's action.
+    PlayersProbability,
     CommaAfterLabel,
     /// A comma anywhere else.
     Comma,
@@ -91,22 +103,56 @@ fn of_format(found: &[u8]) -> Option<Mistake> {
     if found == b"#AGG".as_slice() || found == b"#BAGG".as_slice() {
         return Some(Mistake::ActionGraph);
     }
-    None
+    of_small_letter(found, b"NFG").or(of_small_letter(found, b"EFG"))
+}
+
+/// What a token shows in which a capital of this word is a small letter.
+fn of_small_letter(found: &[u8], word: &[u8]) -> Option<Mistake> {
+    if found.eq_ignore_ascii_case(word) {
+        Some(Mistake::SmallLetter)
+    } else {
+        None
+    }
+}
+
+/// Whether a token begins with one of the characters from U+2000 on whose last bytes, after the
+/// first two, are these.
+fn begins_between(found: &[u8], first: u8, last: u8) -> bool {
+    found.len() > 2 && found.starts_with(b"\xe2\x80") && first <= found[2] && found[2] <= last
+}
+
+fn has_no_break_space(found: &[u8]) -> bool {
+    for end in 1..found.len() {
+        if found[end - 1] == 0xc2 && found[end] == 0xa0 {
+            return true;
+        }
+    }
+    false
 }
 
 /// What the spelling of a bare token shows, wherever it stands.
 fn of_spelling(found: &[u8]) -> Option<Mistake> {
-    if found.starts_with(b"//") || found.starts_with(b"/*") {
-        return Some(Mistake::SlashComment);
-    }
+    let is_comment = found.starts_with(b"//")
+        || found.starts_with(b"/*")
+        || found.starts_with(b"#");
     // U+2018 to U+201F, and U+00AB.
-    let is_curly = found.len() > 2
-        && found.starts_with(b"\xe2\x80")
-        && (0x98..=0x9f).contains(&found[2]);
-    if is_curly || found.starts_with(b"\xc2\xab") {
-        return Some(Mistake::TypographicQuotes);
+    let is_quote = begins_between(found, 0x98, 0x9f)
+        || found.starts_with(b"\xc2\xab")
+        || found.starts_with(b"'")
+        || found.starts_with(b"`");
+    // U+2010 to U+2015, and U+2212.
+    let is_minus = begins_between(found, 0x90, 0x95) || found.starts_with(b"\xe2\x88\x92");
+    if is_comment {
+        Some(Mistake::OtherComment)
+    } else if is_quote {
+        Some(Mistake::OtherQuotes)
+    } else if is_minus {
+        Some(Mistake::OtherMinus)
+    } else if !found.starts_with(b"\"") && has_no_break_space(found) {
+        Some(Mistake::NoBreakSpace)
+    } else {
+        None
     }
-    None
 }
 
 /// Whether a text has a quotation mark that a reader takes for its end: behind it stands what
@@ -244,15 +290,35 @@ fn is_numeric(token: &[u8]) -> bool {
     }
 }
 
+/// What a number shows in the place of a label or a closing brace.
+fn of_number_too_many(context: &Context<'_>) -> Option<Mistake> {
+    if context.is_in_strategies() {
+        Some(Mistake::NotOneCount)
+    } else if !context.is_in_actions() {
+        Some(Mistake::NotOnePayoff)
+    } else if !context.is_chance() {
+        Some(Mistake::PlayersProbability)
+    } else {
+        None
+    }
+}
+
+/// What stands in the place of a text.
+fn of_text(refusal: &Refusal<'_>) -> Option<Mistake> {
+    if refusal.context.ends_in_letter() {
+        Some(Mistake::NoNodeName)
+    } else if is_numeric(refusal.found) && refusal.context.is_in_actions() {
+        of_number_too_many(&refusal.context)
+    } else {
+        None
+    }
+}
+
 /// What stands in the place of a closing brace.
 fn of_closing(refusal: &Refusal<'_>) -> Option<Mistake> {
     let context = refusal.context;
-    let is_in_actions = context.is_tree
-        && (context.ends_in_text() || context.ends_in_text_and_bare());
-    if is_numeric(refusal.found) && context.is_in_strategies() {
-        Some(Mistake::NotOneCount)
-    } else if is_numeric(refusal.found) && !is_in_actions {
-        Some(Mistake::NotOnePayoff)
+    if is_numeric(refusal.found) {
+        of_number_too_many(&context)
     } else if is_one(refusal.found, b'{') && !context.is_tree && context.open == 1 {
         Some(Mistake::NotOneListForEach)
     } else {
@@ -287,7 +353,6 @@ fn of_expected(what: What, refusal: &Refusal<'_>) -> Option<Mistake> {
         return Some(of_comma(&refusal.context));
     }
     match what {
-        What::Format => of_format(refusal.found),
         What::Node => Some(of_text_or_brace(refusal).unwrap_or(of_node(refusal))),
         What::End => Some(of_text_or_brace(refusal).unwrap_or(Mistake::Complete)),
         What::Number => of_number(refusal),
@@ -297,7 +362,11 @@ fn of_expected(what: What, refusal: &Refusal<'_>) -> Option<Mistake> {
             None => of_body(refusal),
         },
         What::Opening => of_early_closing(what, refusal),
-        What::Version | What::Letter | What::Text | What::Strategies => None,
+        What::Letter => {
+            of_small_letter(refusal.found, b"R").or(of_small_letter(refusal.found, b"D"))
+        }
+        What::Text => of_text(refusal),
+        What::Format | What::Version | What::Strategies => None,
     }
 }
 
@@ -314,10 +383,26 @@ fn is_of_form(why: Why) -> bool {
     )
 }
 
+/// What the token itself shows.
+fn of_token(refusal: &Refusal<'_>) -> Option<Mistake> {
+    if refusal.why == Why::Expected(What::Format) {
+        if let Some(mistake) = of_format(refusal.found) {
+            return Some(mistake);
+        }
+    }
+    match of_spelling(refusal.found) {
+        Some(mistake) => Some(mistake),
+        None if refusal.found.starts_with(b"/") && refusal.context.ends_in_value() => {
+            Some(Mistake::ApartFraction)
+        }
+        None => None,
+    }
+}
+
 /// The mistake that a refusal shows, if it shows one.
 pub fn mistake_of(refusal: &Refusal<'_>) -> Option<Mistake> {
     if is_of_form(refusal.why) {
-        if let Some(mistake) = of_spelling(refusal.found) {
+        if let Some(mistake) = of_token(refusal) {
             return Some(mistake);
         }
         if let Some(mistake) = of_text_before(refusal) {

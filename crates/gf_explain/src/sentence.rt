@@ -1,7 +1,9 @@
 //! What is wrong with a file, in a sentence. The sentences that name no token are those of
-//! library/gamefile.c.
+//! library/gamefile.c, which has general ones where these say which number is due or new.
 
+use crate::context::{Context, Index};
 use crate::excerpt::front_of;
+use crate::mistake::Refusal;
 use crate::shown::{Part, ShownText, push_line};
 use gf_form::FormFault;
 use gf_token::{What, Why};
@@ -13,14 +15,36 @@ const MOST: usize = 40;
 
 /// A sentence.
 #[derive(Clone, Copy)]
-enum Sentence {
+enum Sentence<'a> {
     Plain(&'static str),
-    /// What stands before and after the token.
-    Naming(&'static str, &'static str),
+    /// A token, between what stands before and after it.
+    Naming(&'static str, &'a [u8], &'static str),
+}
+
+/// Which number was expected.
+fn number_expectation(index: Index) -> &'static str {
+    match index {
+        Index::Player => "expected a player's number (1 for the first player), found ",
+        Index::InformationSet => {
+            "expected the number of the information set (a whole number from 1 to 4,294,967,295), \
+            found "
+        }
+        Index::NodeOutcome => {
+            "expected the number of the node's outcome (0 if there is none, and at most \
+            4,294,967,295), found "
+        }
+        Index::Strategies => {
+            "expected the number of a player's strategies (a whole number from 1 to \
+            4,294,967,295), found "
+        }
+        Index::ProfileOutcome => {
+            "expected the number of a profile's outcome (0 if there is none), found "
+        }
+    }
 }
 
 /// What was expected.
-fn expectation(what: What) -> &'static str {
+fn expectation(what: What, context: &Context<'_>) -> &'static str {
     match what {
         What::Format => "expected `NFG` or `EFG` at the start of the file, found ",
         What::Version => "expected version 1 (after NFG) or version 2 (after EFG), found ",
@@ -29,7 +53,7 @@ fn expectation(what: What) -> &'static str {
         What::Opening => "expected `{`, found ",
         What::Closing => "expected `}`, found ",
         What::Number => "expected a number, found ",
-        What::Index => "expected a whole number, found ",
+        What::Index => number_expectation(context.due()),
         What::Strategies => {
             "expected the number of strategies of each player, or lists of their labels, found "
         }
@@ -39,9 +63,9 @@ fn expectation(what: What) -> &'static str {
 }
 
 /// The sentence of a fault in a number.
-fn about_number(why: Why) -> Sentence {
+fn about_number<'a>(why: Why, found: &'a [u8]) -> Sentence<'a> {
     match why {
-        Why::NotANumber => Sentence::Naming("", " is not a number"),
+        Why::NotANumber => Sentence::Naming("", found, " is not a number"),
         Why::ZeroDenominator => Sentence::Plain("the denominator is zero"),
         Why::NumberTooLarge => {
             Sentence::Plain("this number is too large or has too many digits")
@@ -53,20 +77,41 @@ fn about_number(why: Why) -> Sentence {
     }
 }
 
+/// The sentence of the first use of a number without a description.
+fn about_new<'a>(context: &Context<'a>) -> Sentence<'a> {
+    let number = context.last_bare().unwrap_or(b"");
+    if !context.is_at_set() {
+        Sentence::Naming(
+            "outcome ",
+            number,
+            " is used for the first time, so its description must follow its number",
+        )
+    } else if context.is_chance() {
+        Sentence::Naming(
+            "information set ",
+            number,
+            " of chance is used for the first time, so its description must follow its number",
+        )
+    } else {
+        Sentence::Naming(
+            "information set ",
+            number,
+            " of this player is used for the first time, so its description must follow its number",
+        )
+    }
+}
+
 /// The sentence of a fault in a use or a description; for any other, that of `about_number`.
-fn about_use(why: Why, found: &[u8]) -> Sentence {
-    match why {
+fn about_use<'a>(refusal: &Refusal<'a>) -> Sentence<'a> {
+    match refusal.why {
         Why::UnknownPlayer => {
-            if found == b"p".as_slice() {
+            if refusal.found == b"p".as_slice() {
                 Sentence::Plain("this game has no players, so it cannot have a player's node")
             } else {
-                Sentence::Naming("there is no player ", "")
+                Sentence::Naming("there is no player ", refusal.found, "")
             }
         }
-        Why::NotDescribed => Sentence::Plain(
-            "this information set or outcome is used for the first time, so its description must \
-            follow its number",
-        ),
+        Why::NotDescribed => about_new(&refusal.context),
         Why::Mismatch => Sentence::Plain(
             "this differs from the description given when the number was first used",
         ),
@@ -76,30 +121,28 @@ fn about_use(why: Why, found: &[u8]) -> Sentence {
         ),
         Why::UnknownOutcome => Sentence::Naming(
             "there is no outcome ",
+            refusal.found,
             ": the file describes fewer outcomes",
         ),
-        why => about_number(why),
+        why => about_number(why, refusal.found),
     }
 }
 
 /// The sentence of a fault in a file.
-fn sentence_of(why: Why, found: &[u8]) -> Sentence {
-    match why {
+fn sentence_of<'a>(refusal: &Refusal<'a>) -> Sentence<'a> {
+    let context = refusal.context;
+    match refusal.why {
         Why::TooLong => Sentence::Plain(
             "the file is larger than 16,777,216 bytes, the largest size that the program reads",
         ),
         Why::Unterminated => Sentence::Plain("this quotation mark is never closed"),
-        Why::Expected(what) => Sentence::Naming(expectation(what), ""),
-        Why::BadIndex => Sentence::Naming(
-            "",
-            " is not a valid number here: expected a whole number from 1 to 4,294,967,295 (from 0 for \
-            an outcome)",
-        ),
+        Why::Expected(what) => Sentence::Naming(expectation(what, &context), refusal.found, ""),
+        Why::BadIndex => { Sentence::Naming(number_expectation(context.due()), refusal.found, "") }
         Why::TooManyProfiles => {
             Sentence::Plain("the table would have more than 1,048,576 strategy profiles")
         }
         Why::Memory => Sentence::Plain("out of memory"),
-        why => about_use(why, found),
+        _ => about_use(refusal),
     }
 }
 
@@ -122,12 +165,12 @@ pub fn push_words(text: &mut ShownText, words: &str) -> Result<(), AllocError> {
     push_line(text, &[Part::Shown(words.as_bytes())])
 }
 
-/// Appends what is wrong at the token that was found.
-pub fn push_sentence(text: &mut ShownText, why: Why, found: &[u8]) -> Result<(), AllocError> {
-    match sentence_of(why, found) {
+/// Appends what is wrong with a file.
+pub fn push_sentence(text: &mut ShownText, refusal: &Refusal<'_>) -> Result<(), AllocError> {
+    match sentence_of(refusal) {
         Sentence::Plain(words) => push_words(text, words),
-        Sentence::Naming(before, after) => {
-            let [opening, token, closing] = named(found);
+        Sentence::Naming(before, named_token, after) => {
+            let [opening, token, closing] = named(named_token);
             push_line(
                 text,
                 &[

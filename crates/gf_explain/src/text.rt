@@ -67,18 +67,17 @@ fn where_of(alloc: Global, fault: &Fault, name: &str, bytes: &[u8]) -> Result<Ve
 fn push_refusal(text: &mut ShownText, fault: &Fault, bytes: &[u8]) -> Result<(), AllocError> {
     let start = fault.span.start.min(bytes.len());
     let end = fault.span.end.min(bytes.len()).max(start);
-    let found = &bytes[start..end];
-    push_sentence(text, fault.why, found)?;
-    if fault.why != Why::TooLong {
-        push_excerpt(text, bytes, fault.span, place_after(&bytes[..start]))?;
-    }
     let before = &bytes[..start];
     let refusal = Refusal {
         why: fault.why,
-        found,
+        found: &bytes[start..end],
         before,
         context: context_of(before),
     };
+    push_sentence(text, &refusal)?;
+    if fault.why != Why::TooLong {
+        push_excerpt(text, bytes, fault.span, place_after(before))?;
+    }
     match mistake_of(&refusal) {
         Some(mistake) => push_hint(text, &mistake),
         None => Ok(()),
