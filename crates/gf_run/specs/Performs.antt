@@ -265,6 +265,12 @@ abbrev pub IsOfPaths : Paths → List CollectionFile → Type 0
 IsOfPaths Paths.Standard files = files ≡ CollectionFile.Input Input.Standard ∷ []
 IsOfPaths paths files = Unit {0}
 
+-- why the files may not be known: a list of names could not be read, or memory ran out
+abbrev pub IsUnlisted : Paths → RunFault → Type 0
+IsUnlisted (Paths.List list end) (RunFault.Read Which.Only) = Unit {0}
+IsUnlisted paths RunFault.Memory = Unit {0}
+IsUnlisted paths fault = ⊥
+
 -- Why the files are not known was reported: that a list could not be read, after its name; or that
 -- memory ran out.
 abbrev pub IsToldOfPaths : {E : Type 0} → Stream E → Paths → RunFault → ℕ → E → E → Type 0
@@ -350,8 +356,9 @@ module _ {I S W E : Type 0} (opener : Opener I S) (reader : Stream S) (writer : 
         → Does opener reader writer errors explain task files status mid b
         → PerformsAll task paths status a b
     -- they are not, which was reported
-    unlisted : (fault : RunFault) → ArePathsOpened opener paths a.inputs b.inputs
-        → b.output ≡ a.output → IsToldOfPaths errors paths fault status a.errors b.errors
+    unlisted : (fault : RunFault) → IsUnlisted paths fault
+        → ArePathsOpened opener paths a.inputs b.inputs → b.output ≡ a.output
+        → IsToldOfPaths errors paths fault status a.errors b.errors
         → PerformsAll task paths status a b
 
   abbrev pub Performs : Job → ℕ → World I W E → World I W E → Type 0

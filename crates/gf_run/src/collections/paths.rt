@@ -1,9 +1,10 @@
 //! The files of a collection: those that words or a list of names lead to.
 
-ghost use Rattle.std.specs.Prelude.{◌≡◌, [], IfOk, map};
+ghost use Rattle.std.specs.Prelude.{◌≡◌, [], IfErr, IfOk, map};
 ghost use Rattle.std.specs.Str.Lossy.{utf8_lossy};
 ghost use Rattle.std.specs.String.{string_bytes};
 ghost use Rattle.gf_run.specs.Performs.{AreFoldersOf, ArePathsOpened, AreSomeOf, IsOfPaths};
+ghost use Rattle.gf_run.specs.Performs.{IsUnlisted};
 
 use crate::collections::file::CollectionFile;
 use crate::collections::folders::{KeptFiles, Repeats, is_whole, push_files, push_names};
@@ -28,7 +29,8 @@ fn names_in<R: AllocGlobal, I: Inputs>(
     list: &Input,
     end: LineEnd,
 ) -> Result<Vec<Vec<u8>>, RunFault>
-    ensures { ArePathsOpened I.opener (Paths.List list.now end) inputs.old inputs.new }
+    ensures opened { ArePathsOpened I.opener (Paths.List list.now end) inputs.old inputs.new }
+    ensures fault { IfErr result (IsUnlisted (Paths.List list.now end)) }
 {
     let Ok(input) = open_input(inputs, list) else {
         return Err(RunFault::Read(Which::Only));
@@ -95,6 +97,7 @@ pub fn files_at<R: Files + AllocGlobal, I: Inputs>(
     ensures files { IfOk result (λ found. IsOfPaths paths.now found.files.items) }
     ensures folders { IfOk result (λ found.
         AreFoldersOf paths.now (map string_bytes found.without_games.items)) }
+    ensures fault { IfErr result (IsUnlisted paths.now) }
 {
     match paths {
         Paths::Standard => Ok(standard_input(rt)?),
