@@ -10,7 +10,8 @@ from .errors import GameFileError, TableError
 
 __all__ = ["Renumbering", "canonical", "check", "explain", "key", "renumbering", "same", "table"]
 
-# An answer that does not fit is computed twice, and a table may be much longer than its tree.
+# A table may be far longer than its tree, and one that does not fit is computed twice. To make room for
+# long ones at once would take longer than most calls, since ctypes fills it with zeros.
 _LEAST_ROOM = 1 << 14
 # An explanation is seldom longer, but for the name of its file.
 _ROOM_OF_WORDS = 1 << 10
