@@ -70,7 +70,6 @@ class GameFileError(Error, ValueError):
         which: Optional[Literal["a", "b"]] = None,
         path: Optional[Path] = None,
     ) -> None:
-        # A hint may be a function that finds it, and is called when it is asked for.
         super().__init__(code, start, end, line, column, message)
         self.code = code
         self.start = start
@@ -80,6 +79,7 @@ class GameFileError(Error, ValueError):
         self.message = message
         self.which = which
         self.path = path
+        # It may be a function that finds the hint, which takes as long as the call itself.
         self._hint = hint
 
     @property
@@ -95,6 +95,7 @@ class GameFileError(Error, ValueError):
         self._hint = self.hint
 
     def __reduce__(self) -> Union[str, Tuple[Any, ...]]:
+        # Another process gets the hint, and no part of the file.
         self._keep_hint()
         return super().__reduce__()
 
