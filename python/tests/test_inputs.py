@@ -29,7 +29,7 @@ HINTS = {
     b'EFG 2 R "" { "A" } p "" 1 1 "" { "x" } 0 P "" 1': "each action needs a subtree",
     b'EFG 2 R "" { "A" } P "" 1 1 0': "the tree begins here, after the players and at most one comment",
     b'\xef\xbb\xbfNFG 1 R "" { } { }': "the file begins with a byte order mark; save it as UTF-8 without one",
-    'NFG 1 R “x” { } { }'.encode(): 'texts stand in straight quotation marks, as in "A"',
+    'NFG 1 R “x” { } { }'.encode(): 'texts stand in straight double quotes, as in "A"',
     b'NFG 1 R "" { "A" } { 1 } 1/0': None,
 }
 FILES = [TREE, TABLE, REFUSED, b""]
