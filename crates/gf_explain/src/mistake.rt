@@ -115,8 +115,7 @@ fn of_small_letter(found: &[u8], word: &[u8]) -> Option<Mistake> {
     }
 }
 
-/// Whether a token begins with one of the characters from U+2000 on whose last bytes, after the
-/// first two, are these.
+/// Whether a token begins with a character from U+2000 to U+203F whose last byte is in this range.
 fn begins_between(found: &[u8], first: u8, last: u8) -> bool {
     found.len() > 2 && found.starts_with(b"\xe2\x80") && first <= found[2] && found[2] <= last
 }

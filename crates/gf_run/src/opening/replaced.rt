@@ -52,8 +52,8 @@ fn new_file_beside(rt: &HostRuntime, path: &str) -> Result<NewFile, Unreplaced> 
     Err(Unreplaced::System(io::Error::from(ErrorKind::AlreadyExists)))
 }
 
-/// Gives a new file the owner, the group and the permissions of another. The owner and the group are
-/// those of the user where the system lets nobody else be the owner.
+/// Gives a new file the owner, the group and the permissions of another. Where the system does not
+/// let the user do so, the owner or the group stays as it is.
 fn give_to(file: &File, found: &Metadata) -> Result<(), io::Error> {
     let (owner, group) = (Some(found.uid()), Some(found.gid()));
     if fchown(file, owner, group).is_err() {
