@@ -27,7 +27,7 @@ abbrev pub described_fields : {D : Type 0} → (D → List (List ℕ)) → ℕ �
 described_fields fields number description =
     decimal number ∷ flat_map fields (option_to_list description)
 
--- chance moves at `c`, and another player at `p`, by his number
+-- chance moves at `c`, and another player at `p`, by their number
 abbrev pub mover_fields : List ℕ → ℕ → List (List ℕ)
 mover_fields name zero = codes "c" ∷ quoted name ∷ []
 mover_fields name (suc player) = codes "p" ∷ quoted name ∷ decimal (suc player) ∷ []

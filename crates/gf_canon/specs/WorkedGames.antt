@@ -54,7 +54,7 @@ unseen = game (codes "s")
     ∷ described (set_of 1 1) (choice (codes "i") (codes "L" ∷ [])) ∷ [])
     []
 
--- he sees it, and his two sets have equal descriptions
+-- the player sees it, and both sets of the player have equal descriptions
 abbrev pub seen : Game
 seen = game (codes "s")
     (moves (set_of 0 1) None

@@ -16,16 +16,16 @@ use Rattle.gf_form.specs.Strategies.{choice_at, strategies, players_of}
 use Rattle.gf_form.specs.Strategies.{strategies_at, strategy_at, full_profiles}
 use Rattle.gf_form.specs.StrategicForm.{ArePayoffsAt, IsFormWith}
 
--- not a move of this player, or the one that he chooses
+-- not a move of this player, or the one that they choose
 abbrev pub is_own_choice : (SetKey → ℕ) → ℕ → Step → Bool
 is_own_choice choices player s =
     option_map_or (λ key. not (key.player == player) || choices key == s.taken) s.node.set true
 
--- a play agrees with choices if each of the player's moves on it is his choice
+-- a play agrees with choices if each of the player's moves on it is their choice
 abbrev pub agrees : (SetKey → ℕ) → ℕ → Play → Bool
 agrees choices player play = list_all (is_own_choice choices player) play.steps
 
--- the steps come to a node of this set, and all moves of its owner before it are as he chooses
+-- the steps come to a node of this set, and all moves of its owner before it are as they choose
 abbrev pub comes_to : (SetKey → ℕ) → SetKey → List Step → Bool
 comes_to choices key [] = false
 comes_to choices key (s ∷ steps) = option_map_or (same_set key) s.node.set false

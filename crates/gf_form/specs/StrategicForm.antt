@@ -42,7 +42,7 @@ pub record IsFormWith (labels : ℕ → List (List ℕ)) (IsRight : List ℕ →
 abbrev pub strategy_labels : Game → ℕ → List (List ℕ)
 strategy_labels g player = map strategy_label (strategies g player)
 
--- the payoffs if these strategies meet: each player's strategy is the one at his position in the
+-- the payoffs if these strategies meet: each player's strategy is the one at their position in the
 -- profile
 abbrev pub ArePayoffsAt : Game → List ℕ → List Ratio → Type 0
 ArePayoffsAt g profile payoffs = ArePayoffs g (choices_by g (strategies_at g profile)) payoffs

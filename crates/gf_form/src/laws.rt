@@ -66,7 +66,7 @@ pub fn value_is_payoff()
         → IsValue g choices player g.tree value → IsEqual value (payoff g choices player) }
 {}
 
-/// The pure strategies of a player are all choices of an action at each of his sets, each once;
+/// The pure strategies of a player are all choices of an action at each of their sets, each once;
 /// there are as many as the product of the numbers of actions. Their labels differ, as long as no
 /// set has 2^64 actions.
 #[tactic(auto, using(crate::proofs::lemmas::strategies::StrategiesByNumber::each_strategy))]
@@ -182,7 +182,7 @@ pub fn reduced_strategies_agree()
         ≡ agrees (choice_at (player_keys g player) t) player play) }
 {}
 
-/// The reduced strategies of a player are what his strategies reduce to, each once. Their labels
+/// The reduced strategies of a player are what their strategies reduce to, each once. Their labels
 /// differ, as long as no set has 2^64 actions.
 pub fn every_reduced_strategy()
     ensures each_comes { (g : Game) (player : ℕ) (strategy : List (Option ℕ))

@@ -68,8 +68,8 @@ fn form_with(
 /// payoffs at each profile.
 ///
 /// A reduced strategy is what is left of a pure one without the choices that cannot matter. It has
-/// an action at each set that some play reaches on which the set's owner makes all his earlier
-/// moves as he chooses, and `*` at the others. Its label joins these by `-`: `1-*` (this project's
+/// an action at each set that some play reaches on which the set's owner makes all their earlier
+/// moves as they choose, and `*` at the others. Its label joins these by `-`: `1-*` (this project's
 /// profile). The reduced strategies are in the order of the first strategies that reduce to them,
 /// and the payoffs at a profile are those at every profile of the strategic form that reduces to
 /// it.

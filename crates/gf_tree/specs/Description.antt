@@ -19,7 +19,7 @@ pub record Outcome : Type 0 where
   pub name : List ℕ
   pub payoffs : List Ratio
 
--- Each player numbers his sets, from 1. Chance is player 0.
+-- Each player numbers their sets, from 1. Chance is player 0.
 pub record SetKey : Type 0 where
   pub player : ℕ
   pub number : ℕ

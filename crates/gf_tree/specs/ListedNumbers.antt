@@ -18,8 +18,8 @@ abbrev pub AreNumbers : List ℕ → Type 0
 AreNumbers [] = Unit {0}
 AreNumbers (n ∷ ns) = (0 < n) × (Contains ns n → ⊥) × AreNumbers ns
 
--- A list for chance, then one for each player, each as long as his sets, and a list as long as the
--- outcomes.
+-- A list for chance, then one for each player, each as long as their sets, and a list as long as
+-- the outcomes.
 pub record AreListed (g : Game) (sets : List (List ℕ)) (outcomes : List ℕ) : Type 0 where
   pub one_list_each : length sets ≡ suc (length g.players)
   pub each_set : (player : ℕ) → player ≤ length g.players

@@ -27,13 +27,13 @@ abbrev pub IsInformationSet : ℕ → List Token → InformationSet → Type 0
 IsInformationSet player tokens set = (inner : List Token) × (tokens ≡ Text set.name ∷ braced inner)
     × Each (IsAction player) inner set.actions
 
--- chance moves at `c`, and another player at `p`, which has his number after the node's name
+-- chance moves at `c`, and another player at `p`, which has their number after the node's name
 abbrev pub SpellsMover : List ℕ → List Token → ℕ → Type 0
 SpellsMover letter tokens zero = (letter ≡ codes "c") × (tokens ≡ [])
 SpellsMover letter tokens (suc player) = (bytes : List ℕ) × (letter ≡ codes "p")
     × (tokens ≡ Bare bytes ∷ []) × IsIndex bytes (suc player)
 
--- nothing at `t`; otherwise the player, and the number and the description of his set
+-- nothing at `t`; otherwise the player, and the number and the description of their set
 abbrev pub IsStep : List ℕ → List Token → Option (Use SetKey InformationSet) → Type 0
 IsStep letter tokens None = (letter ≡ codes "t") × (tokens ≡ [])
 IsStep letter tokens (Some u) =

@@ -105,7 +105,7 @@ bonus_file =
     ++ codes "p \"\" 1 1 \"i\" { \"L\" \"R\" } 1 \"bonus\" { 1 0 }\nt \"\" 2 \"x\" { 2 0 }\n"
     ++ codes "t \"\" 0\np \"\" 1 1 0\nt \"\" 0\nt \"\" 3 \"y\" { 3 1 }\n"
 
--- ---- a player who forgets what he chose
+-- ---- a player who forgets what they chose
 
 abbrev pub forgetful : Game
 forgetful = game (codes "w")

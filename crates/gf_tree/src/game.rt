@@ -171,7 +171,7 @@ impl<'a> Game<'a> {
         count
     }
 
-    /// The number of a player's set, by its position from 1 among his sets in order of first use.
+    /// The number of a player's set, by its position from 1 among their sets in order of first use.
     /// `None` if there is no such set.
     pub fn set_number(&self, player: u32, i: usize) -> Option<u32>
         ensures { result
@@ -273,7 +273,7 @@ impl<'a> Game<'a> {
     }
 
     /// Who moves at the node at this place, where chance is player 0, and the position of its set,
-    /// from 1, among his sets in order of first use. `None` if the game ends here.
+    /// from 1, among their sets in order of first use. `None` if the game ends here.
     pub(crate) fn mover(&self, at: usize) -> Option<(u32, u32)>
         requires { at < length (subtrees self.now.tree) }
         ensures mover { IsMover self.now (root_node (subtree_at self.now.tree at)).set result }

@@ -1,4 +1,5 @@
-//! The digits of one player's demands: one for each of his sets at which he has several actions.
+//! The digits of one player's demands: one for each of their sets at which they have several
+//! actions.
 
 ghost use Rattle.std.specs.Prelude.{◌≡◌, ◌<◌, ◌^◌, IfOk};
 ghost use Rattle.gf_nfg.specs.Profiles.{product};
@@ -20,8 +21,8 @@ pub(crate) struct OwnDigit {
     pub actions: u32,
 }
 
-/// The step of the digit of each set, if a player has this many actions at each; 0 if he has only
-/// one there.
+/// The step of the digit of each set, if a player has this many actions at each; 0 if they have
+/// only one there.
 #[tactic(auto, using(crate::proofs::lemmas::reduced::SearchStarts::own_digit_steps))]
 pub(crate) fn own_steps(alloc: Global, counts: &[u32]) -> Result<Vec<u64>, AllocError>
     requires some { ArePositive counts.now }

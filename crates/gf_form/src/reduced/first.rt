@@ -24,19 +24,19 @@ use gf_nfg::Labels;
 use gf_tree::Game;
 use std::alloc::{AllocError, Global};
 
-/// A player, and the digits of his sets.
+/// A player, and the digits of their sets.
 #[derive(Drop)]
 pub(crate) struct Player<'q, 'a> {
     pub game: &'q Game<'a>,
     pub number: u32,
-    /// How many actions there are at each of his sets.
+    /// How many actions there are at each of their sets.
     pub counts: &'q [u32],
-    /// How many strategies he has.
+    /// How many strategies they have.
     pub whole: u32,
     pub digits: Vec<OwnDigit>,
 }
 
-/// A search for the first strategies of a player that reduce to each of his reduced ones. It
+/// A search for the first strategies of a player that reduce to each of their reduced ones. It
 /// chooses at one digit after another, the slowest first, and goes no further if a set at which it
 /// chose an action other than the first cannot be met any more. Sets without a digit have one
 /// action, so they never decide this. Its levels leave them out, since there may be many levels
@@ -202,8 +202,8 @@ fn first_numbers(
     Ok(search.numbers)
 }
 
-/// The number of the only strategy of a player, and its label. He has one action at each of his sets,
-/// so all of them are relevant, and there is no need to walk the tree for him.
+/// The number of the only strategy of a player, and its label. They have one action at each of
+/// their sets, so all of them are relevant, and there is no need to walk the tree for them.
 #[tactic(auto, using(crate::proofs::lemmas::reduced::Coming::only_label))]
 fn only_strategy(
     alloc: Global,
@@ -224,8 +224,8 @@ fn only_strategy(
 }
 
 /// The numbers of the first strategies that reduce to each reduced strategy of a player, from 0,
-/// and the labels of the reduced ones. Each of his sets has this many actions, and he has `whole`
-/// strategies.
+/// and the labels of the reduced ones. Each of their sets has this many actions, and they have
+/// `whole` strategies.
 #[tactic(auto, using(crate::proofs::lemmas::reduced::SearchStarts::start_steps))]
 fn own_strategies(
     alloc: Global,
@@ -258,7 +258,7 @@ fn own_strategies(
     Ok((numbers, labels))
 }
 
-/// The numbers of the first strategies of each player, and the labels of his reduced ones.
+/// The numbers of the first strategies of each player, and the labels of their reduced ones.
 pub(crate) fn all_reduced(
     alloc: Global,
     game: &Game<'_>,

@@ -33,7 +33,7 @@ pub(crate) struct Found {
 
 /// Which sets are relevant under each of some strategies. It goes down digit by digit, the slowest
 /// first, with the strategies that choose alike so far. Visits that demand nothing at a digit are
-/// looked at once, whatever is chosen there, if to copy them for each action takes longer.
+/// looked at once, whatever is chosen there, if copying them for each action would take longer.
 #[derive(Drop)]
 pub(crate) struct Relevance {
     alloc: Global,
@@ -149,8 +149,8 @@ impl Relevance {
         Ok(())
     }
 
-    /// Whether to copy as many free visits for each action takes longer than to look at all visits
-    /// once, and to mark the sets once more.
+    /// Whether copying this many free visits for each action takes longer than looking at all visits
+    /// once and marking the sets once more.
     fn is_apart(&self, level: &Level, free: usize, digit: OwnDigit, strategies: usize) -> bool {
         let copies = free.saturating_mul(strategies.min(digit.actions as usize));
         let marks = strategies.saturating_mul(self.sets);
@@ -251,7 +251,7 @@ fn listed(alloc: Global, numbers: &[u32]) -> Result<Vec<Found>, AllocError>
 }
 
 /// The labels of a player's reduced strategies, if the first ones that reduce to them have these
-/// numbers, and these are his visits.
+/// numbers, and these are their visits.
 pub(crate) fn labels_of(
     alloc: Global,
     player: &Player<'_, '_>,

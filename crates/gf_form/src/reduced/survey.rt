@@ -1,4 +1,4 @@
-//! The visits of a player, which one walk through the tree finds, whatever he chooses.
+//! The visits of a player, which one walk through the tree finds, whatever they choose.
 
 ghost use Rattle.std.specs.Prelude.{◌≡◌, ◌<◌, ◌^◌, IfOk};
 ghost use Rattle.gf_tree.specs.Branches.{game_of, tree_of};
@@ -44,7 +44,7 @@ fn visit_to(branch: &Branch<'_, '_>, player: u32, demands: u64) -> Option<Visit>
     }
 }
 
-/// The visits of a player to his sets, whose digits have these steps, in prefix order.
+/// The visits of a player to their sets, whose digits have these steps, in prefix order.
 fn all_visits(
     alloc: Global,
     game: &Game<'_>,

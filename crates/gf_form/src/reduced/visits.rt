@@ -1,4 +1,4 @@
-//! The visits of a player to his sets: the ways to come to them, as far as his own moves
+//! The visits of a player to their sets: the ways to come to them, as far as their own moves
 //! distinguish them.
 
 ghost use Rattle.std.specs.Prelude.{◌≡◌, ◌≤◌, false, true};
@@ -9,9 +9,9 @@ ghost use Rattle.gf_form.specs.inner.reduced.Visits.{HoldTheSame, order_of};
 /// A way to come to a set.
 #[derive(Clone, Copy, PartialEq, Eq)]
 pub(crate) struct Visit {
-    /// The choices that it demands of the player, by the digits of his sets.
+    /// The choices that it demands of the player, by the digits of their sets.
     pub demands: u64,
-    /// The place of the set among his, from 0.
+    /// The place of the set among theirs, from 0.
     pub set: u32,
 }
 

@@ -14,8 +14,8 @@ use gf_nfg::ProfileCount;
 use gf_tree::Game;
 use std::alloc::{AllocError, Global};
 
-/// How many actions there are at a player's set, by its position from 1 among his; 0 if he has no
-/// such set.
+/// How many actions there are at a player's set, by its position from 1 among theirs; 0 if they
+/// have no such set.
 #[tactic(auto, using(crate::proofs::lemmas::strategies::CountedActions::action_steps))]
 pub(crate) fn action_count(game: &Game<'_>, player: u32, position: usize) -> usize
     requires is_game { IsGame game.now }
@@ -30,8 +30,8 @@ pub(crate) fn action_count(game: &Game<'_>, player: u32, position: usize) -> usi
     }
 }
 
-/// How many actions there are at each of a player's sets, and how many strategies he has; `None` if
-/// there are more of these alone than a table may have profiles.
+/// How many actions there are at each of a player's sets, and how many strategies they have; `None`
+/// if there are more of these alone than a table may have profiles.
 fn own_counts(
     alloc: Global,
     game: &Game<'_>,
@@ -60,7 +60,7 @@ fn own_counts(
 /// How many actions there are at each set of each player, and how many strategies and profiles.
 #[derive(Drop)]
 pub(crate) struct Counts {
-    /// For each player, and for each of his sets in order of first use.
+    /// For each player, and for each of their sets in order of first use.
     pub actions: Vec<Vec<u32>>,
     /// For each player.
     pub strategies: Vec<u32>,
@@ -69,7 +69,7 @@ pub(crate) struct Counts {
 
 impl Counts {
     /// How many actions there are at each set of the player at this place, and how many strategies
-    /// he has.
+    /// they have.
     #[tactic(auto, using(crate::proofs::lemmas::strategies::CountedActions::given_steps))]
     pub(crate) fn of_player(&self, place: usize) -> (&[u32], u32)
         requires counted { (g : Game) × AreCounts g self.now }

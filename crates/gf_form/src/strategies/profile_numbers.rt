@@ -31,7 +31,7 @@ fn push_sums(numbers: &[u32], other: u32, sums: &mut Vec<u32>) -> Result<(), All
 }
 
 /// The numbers of profiles of some players and one more before them, who has this many strategies,
-/// from those of the others and those of his strategies.
+/// from those of the others and those of their strategies.
 fn with_player(
     alloc: Global,
     count: u32,

@@ -27,8 +27,8 @@ fn is_strategy(game: &Game<'_>, player: u32, strategy: &[u32]) -> bool
 }
 
 /// Whether there is one list for each player, with the position of an action, from 1, for each of
-/// his sets in order of first use: this is what the caller of [`expected`](crate::expected) has to
-/// ensure.
+/// their sets in order of first use: this is what the caller of [`expected`](crate::expected) has
+/// to ensure.
 #[tactic(auto, using(crate::proofs::lemmas::strategies::CountedActions::strategy_steps))]
 pub fn are_strategies(game: &Game<'_>, choices: &[Vec<u32>]) -> bool
     ensures sound { IsTrue result → AreStrategies game.now (map (λ own. own.items) choices.now) }

@@ -21,7 +21,7 @@ pub(crate) enum Choices<'c> {
     OfProfile(u32, &'c Digits),
 }
 
-/// What is given for a set of a player, by the position of the set among his.
+/// What is given for a set of a player, by the position of the set among theirs.
 #[tactic(auto, using(crate::proofs::lemmas::values::Walks::set_there))]
 pub(crate) fn at_set<T: Copy>(all: &[Vec<T>], player: u32, position: u32) -> Option<T>
     ensures { result ≡ at_position (strategy_at (map (λ own. own.items) all.now) player) position }

@@ -63,7 +63,7 @@ pub(crate) fn expected_with<'g, 'a>(
 /// plays that follow the choices, of the probability of the play times the payoffs of its outcomes.
 ///
 /// The caller has to ensure that there is one list for each player, with the position of an action,
-/// from 1, for each of his sets in order of first use.
+/// from 1, for each of their sets in order of first use.
 ///
 /// # Errors
 ///

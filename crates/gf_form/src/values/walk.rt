@@ -135,7 +135,7 @@ impl<'g, 'a> Walk<'_, 'g, 'a> {
         }
     }
 
-    /// The action that is chosen at a node, where a player moves at his set with this position.
+    /// The action that is chosen at a node, where a player moves at their set with this position.
     fn action(&self, node: usize, player: u32, position: u32) -> usize
         requires walk { IsWalk self.now }
         requires there { IsThere self.now node }

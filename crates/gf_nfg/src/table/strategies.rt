@@ -73,7 +73,7 @@ impl StrategyLists {
         Ok(StrategyLists { labels, ends })
     }
 
-    /// These, and those of one more player. If there are no labels so far, his are not copied.
+    /// These, and those of one more player, which are not copied if there are no labels so far.
     #[tactic(auto, using(crate::proofs::lemmas::tables::Pieces::one_piece_more))]
     fn with_labels(self, own: Labels) -> Result<StrategyLists, AllocError>
         ensures all { IfOk result (λ all. all ≡ self ++ own ∷ []) }

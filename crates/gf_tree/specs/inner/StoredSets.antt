@@ -37,7 +37,7 @@ pub record HoldActions (actions : List Held) (from start end : ℕ) : Type 0 whe
   pub begun : from ≤ length actions
   pub same : actions_of (slice_range actions start end) ≡ actions_of (drop from actions)
 
--- each player has the numbers of his sets, and each set its number among those of its player
+-- each player has the numbers of their sets, and each set its number among those of its player
 pub record AreNumbered (players : List (List ℕ)) (entries : List (StoredKey × StoredSet))
     (known : List (Described SetKey InformationSet)) : Type 0 where
   pub numbers : (player : ℕ)

@@ -91,7 +91,7 @@ impl<'g, 'a> Branch<'g, 'a> {
     }
 
     /// Who moves at its root: a player, counted from 1, or chance, which is player 0; and the
-    /// position of the set, from 1, among his sets in order of first use. `None` if the game ends
+    /// position of the set, from 1, among their sets in order of first use. `None` if the game ends
     /// here.
     pub fn mover(&self) -> Option<(u32, u32)>
         ensures mover { IsMover (game_of self.now) (root_node (tree_of self.now)).set result }

@@ -10,7 +10,7 @@ use gf_token::Label;
 pub enum Step {
     /// Chance moves, at this set of chance.
     Chance { set: u32 },
-    /// A player moves, counted from 1, at this set of his.
+    /// A player moves, counted from 1, at this set of theirs.
     Personal { player: u32, set: u32 },
     /// The game ends.
     Terminal,

@@ -117,8 +117,8 @@ impl<'a> Game<'a> {
     /// the i-th outcome, in order of first use, gets the i-th number of its list.
     ///
     /// The caller has to ensure that there is one list for chance and then one for each player,
-    /// each with as many numbers as he has sets; that the list of outcomes has as many numbers as
-    /// there are outcomes; and that in each list the numbers are positive and none is repeated.
+    /// each with as many numbers as they have sets; that the list of outcomes has as many numbers
+    /// as there are outcomes; and that in each list the numbers are positive and none is repeated.
     ///
     /// # Errors
     ///

@@ -91,7 +91,7 @@ impl OwnSets {
     }
 }
 
-/// A player's sets, if he has had any.
+/// A player's sets, if they have had any.
 #[inline(always)]
 fn sets_of(players: &[OwnSets], player: u32) -> Option<&OwnSets>
     ensures { MatchOption result (get_or players.now player [] ≡ [])
@@ -113,7 +113,7 @@ fn reach(players: &mut Vec<OwnSets>, alloc: Global, player: u32) -> Result<(), A
     Ok(())
 }
 
-/// Adds a set to those of a player, and returns how many he then has.
+/// Adds a set to those of a player, and returns how many they then have.
 fn add_set(
     players: &mut Vec<OwnSets>,
     alloc: Global,
@@ -133,7 +133,7 @@ fn add_set(
     players[player as usize].add(number, place)
 }
 
-/// The place of a player's last set, if he has any.
+/// The place of a player's last set, if they have any.
 fn last_place(players: &[OwnSets], player: u32) -> Option<u32> {
     match sets_of(players, player) {
         Some(own) => Some(own.last),

@@ -92,7 +92,7 @@ module _ (g : Game) (game : IsGame g) (choices : SetKey → ℕ) (player : ℕ) 
     pub relevant_is : is_relevant g choices key ≡ list_any test (met_nodes g choices player g.tree)
     relevant_is = comes_in g.tree game.children
 
-  -- if its owner has one action at each of his sets, they come there wherever it is used
+  -- if its owner has one action at each of their sets, they come there wherever it is used
   module _ (one : (own : SetKey) (set : InformationSet) → own.player ≡ player
       → set_at g own ≡ Some set → (length set.actions ≡ 1) × (choices own ≡ 1)) where
     abbrev is_used : List (Listed Node) → Bool
@@ -201,7 +201,7 @@ module _ (g : Game) (game : IsGame g) (spellable : IsSpellable g) (player : ℕ)
   abbrev c : SetKey → ℕ
   c key = choice_at (player_keys g player) strategy key
 
-  -- the player's by his strategy, and the first action at any other set
+  -- the player's by their strategy, and the first action at any other set
   abbrev everybody : SetKey → ℕ
   everybody key = if key.player == player then c key else 1
 

@@ -134,7 +134,7 @@ module _ (g : Game) where
   AreReducedAlike all others =
       (p : ℕ) → 0 < p → reduced g p (strategy_at all p) ≡ reduced g p (strategy_at others p)
 
-  -- what a player chooses is by his own strategy
+  -- what a player chooses is by their own strategy
   his_comes : (all : List (List ℕ)) (key : SetKey) (steps : List Step)
       → comes_to (choices_by g all) key steps
       ≡ comes_to (chosen g key.player (strategy_at all key.player)) key steps

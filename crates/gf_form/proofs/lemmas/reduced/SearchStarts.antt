@@ -1,5 +1,5 @@
--- The digits of one player's sets, and his visits to these; a search for first strategies, and that
--- for their labels, before the first choice; and what the player has at the end.
+-- The digits of one player's sets, and their visits to these; a search for first strategies, and
+-- that for their labels, before the first choice; and what the player has at the end.
 use Rattle.gf_form.proofs.Common
 use Common.{recursion_from_All, mul-le-mul_right, slice_get-get_or, All-from_get_or, FindRelevance}
 use Common.{AllByRecursion, is_relevant_at, action_counts, ChooseInTurn, append_assoc, AreFirstsOf}

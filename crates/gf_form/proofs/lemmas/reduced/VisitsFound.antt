@@ -1,4 +1,4 @@
--- The visits of a player that a walk through the tree meets show which of his sets are relevant.
+-- The visits of a player that a walk through the tree meets show which of their sets are relevant.
 use Rattle.gf_form.proofs.Common
 use Common.{same_set_equality, list_any-append, option_and_then, InformationSet, FindRelevance, suc}
 use Common.{action_counts, option_map_or, visit_handing, AllZip-long, AreDistinct, at_position, sym}

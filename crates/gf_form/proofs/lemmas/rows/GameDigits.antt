@@ -82,7 +82,7 @@ pub product_in_order : (counts : List (List ℕ))
 product_in_order [] = refl
 product_in_order (own ∷ others) = grind (arith, product_joined, mul_comm, product_in_order others)
 
--- the number of a player's strategy, and what is left of the number for those after him
+-- the number of a player's strategy, and what is left of the number for those after them
 left : (own others number : ℕ) → number < own * others → (number % own < own)
     × (number / own < others)
 left own others number less = grind arith
@@ -157,7 +157,7 @@ among (s ∷ ss) key set is = by (same_set s.key key) refl (among ss key set) is
           count = later.count;
         }
 
--- his sets have theirs
+-- the sets of the player have theirs
 pub among_own : (g : Game) (player : ℕ) (key : SetKey) (set : InformationSet)
     → key.player ≡ player → set_at g key ≡ Some set → IsAmong (player_sets g player) key set
 among_own g player key set his is = subst (λ (p : ℕ). IsAmong (player_sets g p) key set) his

@@ -1,6 +1,6 @@
 -- What is found in a list whose elements all have a property, and the information sets of a game
--- by their keys. All choices at sets with this many actions each: every one is in the list, once and
--- at its place. The strategies of a profile choose an action at each set, and chance has none.
+-- by their keys. All choices at sets with this many actions each: every one is in the list, once
+-- and at its place. The strategies of a profile choose an action at each set, and chance has none.
 use Rattle.gf_form.proofs.Common
 use Common.{first_uses_distinct, get_or-numbers_from, length-numbers_from, unwrap_or-slice_get, Has}
 use Common.{get_or_append_left, recursion_from_All, All-from_recursion, get_or-append-add, eqb-true}
@@ -158,7 +158,7 @@ pub set_is : (g : Game) → IsGame g → (key : SetKey) (set : InformationSet) �
     → IsSet (length g.players) key set
 set_is g game key set e = rw e at (each_set g game key)
 
--- a player's key is that of one of the game's sets, which is his
+-- a player's key is that of one of the game's sets, which is theirs
 pub own_set : (g : Game) (player : ℕ) (key : SetKey) → Has (player_keys g player) key
     → (s : Described SetKey InformationSet) × Has g.sets s × (s.key ≡ key) × (key.player ≡ player)
 own_set g player key i = grind (arith, mapped_from, of_filter, eqb-true)

@@ -101,7 +101,7 @@ strategies_positive g game =
     all_mapped (λ count. 0 < count) (λ player. length (strategies g player)) (players_of g)
     (some_strategy g game)
 
--- what is so of each player, at his place
+-- what is so of each player, at their place
 pub of_player : {A : Type 0} (g : Game) (f : ℕ → A) (before : ℕ) (d : A)
     → before < length g.players → get_or (map f (players_of g)) before d ≡ f (before + 1)
 of_player g f before d less =

@@ -39,13 +39,13 @@ sum_below : (count rest size number : ℕ) → rest < size → number < count
     → number + count * rest < count * size
 sum_below count rest size number less below = grind arith
 
--- one player more, with his strategy at a place, before a profile of the others
+-- one player more, with their strategy at a place, before a profile of the others
 one_picked : (count : ℕ) (counts own : List ℕ) (picked : List (List ℕ)) (others : List ℕ)
     (rest k : ℕ) → IsPicked counts picked others rest → get_or own k 0 < count
     → IsPicked (count ∷ counts) (own ∷ picked) ((1 + k) ∷ others) (get_or own k 0 + count * rest)
 one_picked count counts own picked others rest k one less = grind (arith, sum_below, profile_at)
 
--- with each of his strategies
+-- with each of their strategies
 more_picked : (count : ℕ) (counts own : List ℕ) (picked : List (List ℕ)) (others : List ℕ)
     (rest : ℕ) → AllByRecursion (λ number. number < count) own → IsPicked counts picked others rest
     → AllZip (IsPicked (count ∷ counts) (own ∷ picked))

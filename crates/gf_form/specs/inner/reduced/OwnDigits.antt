@@ -1,4 +1,5 @@
--- The digits of one player's demands: one for each of his sets at which he has several actions.
+-- The digits of one player's demands: one for each of their sets at which they have several
+-- actions.
 use Rattle.std.specs.Prelude.{ℕ, suc, ◌+◌, List, [], ◌∷◌}
 use Rattle.gf_form.specs.inner.rows.Demands.{steps_of}
 use Rattle.gf_form.specs.inner.rows.DigitSteps.{picked, steps_after}

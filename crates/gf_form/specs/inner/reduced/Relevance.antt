@@ -1,4 +1,4 @@
--- How the visits of a player show which of his sets are relevant.
+-- How the visits of a player show which of their sets are relevant.
 use Rattle.std.specs.Prelude.{◌≡◌, ℕ, List, Some, slice_get}
 use Rattle.gf_tree.specs.Description.{SetKey}
 use Rattle.gf_tree.specs.KeysInOrder.{player_keys}

@@ -66,7 +66,7 @@ pub record ChooseInTurn (g : Game) (player : ℕ) (digits : List OwnDigit) (coun
 
 -- ---- a player
 
--- what is counted of a player is so in the game, and the digits are those of his sets
+-- what is counted of a player is so in the game, and the digits are those of their sets
 pub record IsPlayer (p : Player) : Type 0 where
   pub is_game : IsGame p.game.now
   pub counts : p.counts.now ≡ action_counts p.game.now p.number
@@ -82,9 +82,9 @@ is_settled g player all depth number j =
     is_relevant_at g player number (digit_at all j).place
     || (nat_lt j depth && get_or (numbered g player number) (digit_at all j).place 0 == 1)
 
--- As many of a player's digits are chosen as the depth says, and these are left. The strategies with
--- numbers from this one on, as many as the count says, have all choices there in turn, and the level
--- tells which digits are settled under each of them.
+-- As many of a player's digits are chosen as the depth says, and these are left. The strategies
+-- with numbers from this one on, as many as the count says, have all choices there in turn, and the
+-- level tells which digits are settled under each of them.
 pub record IsSearched (p : Player) (digits : List OwnDigit) (level : Level)
     (depth number count : ℕ) : Type 0
   where

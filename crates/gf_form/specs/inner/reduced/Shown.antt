@@ -5,7 +5,7 @@ use Rattle.gf_tree.specs.Game.{Game}
 use Rattle.gf_form.specs.Reduced.{is_relevant}
 use Rattle.gf_form.specs.Strategies.{choice_at}
 
--- whether each of a player's sets is relevant under his strategy
+-- whether each of a player's sets is relevant under their strategy
 abbrev pub relevant_sets : Game → ℕ → List ℕ → List Bool
 relevant_sets g player strategy =
     map (is_relevant g (choice_at (player_keys g player) strategy)) (player_keys g player)

@@ -34,7 +34,7 @@ visits_of player [] = []
 visits_of player (v ∷ vs) =
     option_map_or (λ visit. visit ∷ []) (visit_at player v) [] ++ visits_of player vs
 
--- those in the whole tree, if the digits of his sets have these steps
+-- those in the whole tree, if the digits of their sets have these steps
 abbrev pub visits_by : Game → ℕ → List ℕ → List Visit
 visits_by g player steps =
     visits_of player (descent g (demanding visit_handing g (own_step g player steps)) 0 g.tree)

@@ -1,4 +1,4 @@
--- The visits of a player to his sets, and which of them come about by his own choices.
+-- The visits of a player to their sets, and which of them come about by their own choices.
 use Rattle.std.specs.Prelude.{◌==◌, ◌&&◌, Bool, List, ◌≡◌, ◌≤◌, ◌+◌, ◌*◌, ◌%◌, ◌^◌, ℕ}
 use Rattle.std.specs.List.{list_any, AllZip}
 use Rattle.gf_form.specs.inner.rows.Demands.{meets}

@@ -99,7 +99,7 @@ step_at (All steps) player position =
 step_at (Own own steps) player position =
     if player == own then unwrap_or (at_position steps.now position) 0 else 0
 
--- the step of the digit of a player's set, if his sets have these; 0 if it is not his
+-- the step of the digit of a player's set, if their sets have these; 0 if it is not theirs
 abbrev pub own_step : Game → ℕ → List ℕ → SetKey → ℕ
 own_step g player steps key =
     if key.player == player then choice_at (player_keys g player) steps key else 0

@@ -9,8 +9,8 @@ use Rattle.gf_form.specs.declared.rows.paths.Path.{Path}
 use Rattle.gf_form.specs.declared.rows.terms.Scaled.{Scaled}
 use Rattle.gf_form.specs.declared.rows.terms.Terms.{Terms}
 
--- over this denominator, the shares of these nodes come to this number for the player, by his place
--- from 0, and their bounds to at most this size
+-- over this denominator, the shares of these nodes come to this number for the player, by their
+-- place from 0, and their bounds to at most this size
 pub record HasShares (g : Game) (rs : List Path) (k den size : ℕ) (number : ℤ) : Type 0 where
   pub exact : AreExactShares g (suc k) den [] [] rs
   pub number_is : number ≡ sum_of_shares g (suc k) den [] [] rs
@@ -30,7 +30,7 @@ pub record IsTermMore (rows : List (List Ratio)) (demands : ℕ) (rs : List Path
   pub says : (k : ℕ) → k < old.players → 0 < term.head.den → (g : Game) → ArePaid g rows
       → HasShares g rs k term.head.den term.head.size (number_at (suc k) term)
 
--- over this denominator and at these choices, the terms come to the shares of a player, by his
+-- over this denominator and at these choices, the terms come to the shares of a player, by their
 -- place from 0, in the nodes that the choices reach
 pub record Tells (g : Game) (k den : ℕ) (steps choices : List ℕ) (rs : List Path)
     (es : List Term) : Type 0 where

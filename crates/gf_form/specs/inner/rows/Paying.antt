@@ -20,8 +20,8 @@ pub record FitOver (den : ℕ) (es : List Term) : Type 0 where
   pub dens : AllByRecursion (IsOver den) es
   pub sizes : sizes_of es < 2 ^ 127
 
--- the second come to what the first come to for each player, by his place from 0, and are over one
--- denominator if these are
+-- the second come to what the first come to for each player, by their place from 0, and are over
+-- one denominator if these are
 pub record Kept (es left : List Term) : Type 0 where
   pub sums : (k den : ℕ) (steps choices : List ℕ) → sum_of_terms (suc k) den steps choices left
       ≡ sum_of_terms (suc k) den steps choices es

@@ -29,7 +29,7 @@ use Rattle.gf_form.specs.declared.rows.asked.Asked.{Asked}
 use Rattle.gf_form.specs.declared.rows.asked.Run.{Run}
 use Rattle.gf_form.specs.declared.rows.written.Written.{Written}
 
--- the player, by his place from 0, has this number over this denominator as his value at the
+-- the player, by their place from 0, has this number over this denominator as their value at the
 -- profile with this number, from 0, among all
 pub record PaysOver (g : Game) (number k den : ℕ) (whole : ℤ) : Type 0 where
   pub payoff : Ratio

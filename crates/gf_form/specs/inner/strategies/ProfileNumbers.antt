@@ -12,8 +12,8 @@ AreProfileNumbers g numbers = AllByRecursion (λ number. number < length (full_p
 abbrev pub numbered_profiles : Game → List ℕ → List (List ℕ)
 numbered_profiles g numbers = map (λ number. get_or (full_profiles g) number []) numbers
 
--- For each player, the numbers of some of his strategies, from 0. There are this many strategies of
--- each player.
+-- For each player, the numbers of some of their strategies, from 0. There are this many strategies
+-- of each player.
 abbrev pub AreBelow : List ℕ → List (List ℕ) → Type 0
 AreBelow counts picked =
     AllZip (λ own count. AllByRecursion (λ number. number < count) own) picked counts

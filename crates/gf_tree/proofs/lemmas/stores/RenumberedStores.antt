@@ -64,7 +64,8 @@ taken xs place x h =
 
 -- ---- a set's number among those of its player
 
--- the entries of a player through this one are one more than the place of this one among all of his
+-- the entries of a player through this one are one more than the place of this one among all of
+-- theirs
 pub record IsAmong (known : List (Described SetKey InformationSet)) (place player : ℕ)
     (s : Described SetKey InformationSet) : Type 0 where
   pub before : ℕ
