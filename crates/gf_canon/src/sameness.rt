@@ -77,10 +77,9 @@ fn same_as_tree(alloc: Global, g: &ListedGame<'_>, b: &[u8], names: Names) -> Re
     ensures refused { IfErr result (IsRefusedWith b.now) }
 {
     let mut comparison = TreeComparison::new(g, names);
-    match tell_file(alloc, b, &mut comparison) {
-        Ok(FileKind::Tree) => Ok(comparison.is_same()),
-        Ok(FileKind::Strategic) => Ok(false),
-        Err(fault) => Err(fault),
+    match tell_file(alloc, b, &mut comparison)? {
+        FileKind::Tree => Ok(comparison.is_same()),
+        FileKind::Strategic => Ok(false),
     }
 }
 

@@ -116,7 +116,7 @@ impl Relevance {
     {
         let start = found.place * self.sets;
         for place in 0..met.len() {
-            self.flags[start + place] = self.flags[start + place] | met[place];
+            self.flags[start + place] |= met[place];
         }
     }
 

@@ -3,8 +3,8 @@
 use Rattle.gf_canon.proofs.Common
 use Common.{canonical_game, IsWithinLimit, SpellsWithin, IsSpellable, SpellsTable, file_nodes, Bool}
 use Common.{SpellsGame, heading_in, append-nil, extensive, strategic, FileNode, GameFile, node_by}
-use Common.{IsTrue, IsGame, SameBy, Result, arith, false, subst, Table, Names, Aside, Fault, List}
-use Common.{Game, Told, Kept, IfOk, refl, ◌≡◌, map, ◌∙◌, ◌↔◌, Err, ◌∷◌, [], ap, Ok, ℕ}
+use Common.{IsTrue, IsGame, SameBy, arith, false, subst, Table, Names, Aside, List}
+use Common.{Game, Told, Kept, refl, ◌≡◌, map, ◌∙◌, ◌↔◌, ◌∷◌, [], ap, ℕ}
 use Rattle.gf_nfg.specs.SameTable.{SameTable}
 use Rattle.gf_nfg.specs.NamedBy.{named_by}
 use Rattle.gf_tree.proofs.Offered.{spelled_is_spellable}
