@@ -1,5 +1,6 @@
 pub mod Asked
 pub mod Errors
+pub mod Found
 pub mod Going
 pub mod Grouped
 pub mod GroupsText

@@ -1,6 +1,7 @@
 pub mod Duplicates
 pub mod Faults
 pub mod FormText
+pub mod LedTo
 pub mod LineText
 pub mod Opening
 pub mod Performs

@@ -16,6 +16,7 @@ use Rattle.gf_run.specs.Duplicates.{are_apart, duplicates, groups_text, HashedFi
 use Rattle.gf_run.specs.Faults.{answer_status, fault_line, is_of_second, status_of}
 use Rattle.gf_run.specs.FormText.{IsRefusal}
 use Rattle.gf_run.specs.Transfers.{IsNotRead, IsReadWhole}
+use Rattle.gf_run.specs.LedTo.{AreFilesOf}
 use Rattle.gf_run.specs.LineText.{IsOtherText}
 use Rattle.gf_run.specs.Opening.{IsFileNotOpened, IsFileOpened, IsNotOpened, IsOpened, Opener}
 use Rattle.gf_run.specs.Opening.{Opens}
@@ -27,6 +28,7 @@ use Rattle.gf_run.specs.Streams.{Stream}
 use Rattle.gf_run.specs.Wrapped.{bytes_kept, kept_at_first, kept_reader, source_of}
 use Rattle.gf_run.specs.declared.collections.collection.Task.{Task}
 use Rattle.gf_run.specs.declared.collections.file.CollectionFile.{CollectionFile}
+use Rattle.gf_run.specs.declared.collections.folders.Repeats.{Repeats}
 use Rattle.gf_run.specs.declared.collections.line.FileLine.{FileLine}
 use Rattle.gf_run.specs.declared.collections.rewrite.Failed.{Failed}
 use Rattle.gf_run.specs.declared.fault.RunFault.{RunFault}
@@ -260,10 +262,10 @@ of_fault (Err fault) first second = if is_of_second fault then second else first
 
 -- ---- over the files of a collection
 
--- the files of a collection that is standard input: this alone
-abbrev pub IsOfPaths : Paths → List CollectionFile → Type 0
-IsOfPaths Paths.Standard files = files ≡ CollectionFile.Input Input.Standard ∷ []
-IsOfPaths paths files = Unit {0}
+-- whether a file is kept that a folder has by a second name
+abbrev pub repeats_of : Task → Repeats
+repeats_of (Task.Duplicates names end) = Repeats.PassedOver
+repeats_of task = Repeats.Kept
 
 -- why the files may not be known: a list of names could not be read, or memory ran out
 abbrev pub IsUnlisted : Paths → RunFault → Type 0
@@ -279,18 +281,6 @@ IsToldOfPaths errors (Paths.List list end) fault status old new =
     ⊎ ((status ≡ status_of fault) × IsTold errors (fault_line fault) old new)
 IsToldOfPaths errors paths fault status old new =
     (status ≡ status_of fault) × IsTold errors (fault_line fault) old new
-
--- some of these, in their order
-abbrev pub AreSomeOf : {X : Type 0} → List X → List X → Type 0
-AreSomeOf {X = X} [] some = some ≡ []
-AreSomeOf {X = X} (x ∷ xs) some = AreSomeOf xs some
-    ⊎ ((rest : List X) × (some ≡ x ∷ rest) × AreSomeOf xs rest)
-
--- folders that were named
-abbrev pub AreFoldersOf : Paths → List (List ℕ) → Type 0
-AreFoldersOf Paths.Standard folders = folders ≡ []
-AreFoldersOf (Paths.Named names) folders = AreSomeOf (map string_bytes names.items) folders
-AreFoldersOf (Paths.List list end) folders = Unit {0}
 
 -- what is said of folders that have no game files: a line for each
 abbrev pub without_games : List (List ℕ) → List ℕ
@@ -347,11 +337,11 @@ module _ {I S W E : Type 0} (opener : Opener I S) (reader : Stream S) (writer : 
 
   pub data PerformsAll (task : Task) (paths : Paths) (status : ℕ) (a b : World I W E)
       : Type 0 where
-    -- the files are found, before any of them is opened; some of the folders that were named may
-    -- be reported as having none; and the task was done for the files
+    -- the files are found, before any of them is opened; folders that were named and have none are
+    -- reported; and the task was done for the files
     found : (files : List CollectionFile) (folders : List (List ℕ)) (mid : World I W E)
         → ArePathsOpened opener paths a.inputs mid.inputs → mid.output ≡ a.output
-        → IsOfPaths paths files → AreFoldersOf paths folders
+        → AreFilesOf (repeats_of task) paths files folders
         → AreToldOf errors folders a.errors mid.errors
         → Does opener reader writer errors explain task files status mid b
         → PerformsAll task paths status a b

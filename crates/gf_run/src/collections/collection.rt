@@ -3,7 +3,7 @@
 ghost use Rattle.std.specs.Prelude.{◌≡◌, ◌++◌, IfOk, OnOk, codes, map};
 ghost use Rattle.std.specs.String.{string_bytes};
 ghost use Rattle.gf_run.specs.Performs.{AreToldOf, Does, IsSame, IsToldOfPaths, PerformsAll};
-ghost use Rattle.gf_run.specs.Performs.{without_games, world_of};
+ghost use Rattle.gf_run.specs.Performs.{repeats_of, without_games, world_of};
 ghost use Rattle.gf_run.specs.Reports.{after_name};
 
 use crate::collections::file::{CollectionFile, word_of};
@@ -36,7 +36,9 @@ pub enum Task {
 
 impl Task {
     /// Whether a file is kept that a folder has by two names.
-    pub fn repeats(self) -> Repeats {
+    pub fn repeats(self) -> Repeats
+        ensures { result ≡ repeats_of self }
+    {
         match self {
             Task::Duplicates(..) => Repeats::PassedOver,
             Task::Lines(_) | Task::Rewrites(_) => Repeats::Kept,

@@ -1,6 +1,11 @@
 //! The files that a path names: a file itself, or, for a folder, the game files below it.
 
-ghost use Rattle.std.specs.Prelude.{◌≡◌, []};
+ghost use Rattle.std.specs.Prelude.{◌≡◌, ◌⊎◌, [], ◌∷◌, ◌++◌, List, ℕ, true, false, IfOk, OnOk};
+ghost use Rattle.std.specs.Prelude.{if◌then◌else◌};
+ghost use Rattle.std.specs.Str.Lossy.{utf8_lossy};
+ghost use Rattle.std.specs.String.{string_bytes};
+ghost use Rattle.gf_run.specs.LedTo.{Adds, HasPath, IsFollowed, IsFrom, LeadsTo};
+ghost use Rattle.gf_run.specs.LedTo.{MayBePassedOver, folder_at};
 
 use crate::collections::file::CollectionFile;
 use gf_words::{Input, LineEnd};
@@ -12,7 +17,9 @@ use std::rt::Files;
 use std::{fs, io};
 
 /// The file of this name in a folder. One whose name is not UTF-8 cannot be opened.
-fn file_in(alloc: Global, folder: &[u8], name: &[u8]) -> Result<CollectionFile, AllocError> {
+fn file_in(alloc: Global, folder: &[u8], name: &[u8]) -> Result<CollectionFile, AllocError>
+    ensures { IfOk result (HasPath (folder.now ++ name.now)) }
+{
     match String::from_utf8([folder, name].concat(alloc)?) {
         Ok(path) => Ok(CollectionFile::Input(Input::File(path))),
         Err(error) => {
@@ -36,31 +43,37 @@ type Identity = (u64, u64);
 #[derive(Drop)]
 pub struct KeptFiles {
     pub files: Vec<CollectionFile>,
-    /// Those of the files that are known, if a folder's files are passed over that come again, as by
-    /// a link.
-    seen: Option<BTreeSet<Identity>>,
+    /// Whether a folder's files are kept that come again, as by a link.
+    pub repeats: Repeats,
+    /// Which files came so far, if those that come again are passed over.
+    seen: BTreeSet<Identity>,
 }
 
 impl KeptFiles {
     /// None yet.
     // No edit: it puts parts together.
     pub fn new(alloc: Global, repeats: Repeats) -> KeptFiles
-        ensures { result.files.items ≡ [] }
+        ensures files { result.files.items ≡ [] }
+        ensures repeats { result.repeats ≡ repeats }
     {
         KeptFiles {
             files: Vec::new(alloc),
-            seen: match repeats {
-                Repeats::Kept => None,
-                Repeats::PassedOver => Some(BTreeSet::new(alloc)),
-            },
+            repeats,
+            seen: BTreeSet::new(alloc),
         }
     }
 
     /// Whether a file that a folder has comes for the first time, unless that does not matter.
-    fn is_new(&mut self, file: Identity) -> Result<bool, AllocError> {
-        match &mut self.seen {
-            Some(seen) => Ok(seen.insert(file)?),
-            None => Ok(true),
+    fn is_new(&mut self, file: Identity) -> Result<bool, AllocError>
+        ensures repeats { self.new.repeats ≡ self.old.repeats }
+        ensures files { self.new.files ≡ self.old.files }
+        ensures seen { IfOk result (λ is_new. is_new ≡ false
+            → MayBePassedOver self.old.repeats self.old.files.items) }
+    {
+        match self.repeats {
+            Repeats::Kept => Ok(true),
+            // If none is kept, none came before.
+            Repeats::PassedOver => Ok(self.seen.insert(file)? || self.files.is_empty()),
         }
     }
 }
@@ -120,7 +133,9 @@ fn push_entries(
     folder: &str,
     names: &[Vec<u8>],
     waiting: &mut Vec<CollectionFile>,
-) -> Result<(), AllocError> {
+) -> Result<(), AllocError>
+    ensures { OnOk result (Adds folder.now waiting.old.items waiting.new.items) }
+{
     for name in names.iter().rev() {
         if !name.as_slice().starts_with(b".") {
             waiting.push(file_in(alloc, folder.as_bytes(), name.as_slice())?)?;
@@ -129,16 +144,28 @@ fn push_entries(
     Ok(())
 }
 
+/// The path of a folder, with a slash at its end. A link to a folder can be opened only by that.
+fn folder_at(alloc: Global, folder: &str) -> Result<String, AllocError>
+    ensures { IfOk result (λ path. string_bytes path ≡ folder_at folder.now) }
+{
+    let slash = if folder.as_bytes().ends_with(b"/") {
+        ""
+    } else {
+        "/"
+    };
+    [folder, slash].concat(alloc)
+}
+
 /// Puts what is in a folder before everything that waits, ordered by the bytes of the names; says
 /// whether the folder could be read whole.
 fn open_folder<R: Files + AllocGlobal>(
     rt: &R,
     folder: &str,
     waiting: &mut Vec<CollectionFile>,
-) -> Result<bool, AllocError> {
-    // A link to a folder can be opened only by a path with a slash at its end.
-    let slash = if folder.ends_with('/') { "" } else { "/" };
-    let path = [folder, slash].concat(rt.alloc())?;
+) -> Result<bool, AllocError>
+    ensures { OnOk result (Adds (folder_at folder.now) waiting.old.items waiting.new.items) }
+{
+    let path = folder_at(rt.alloc(), folder)?;
     let mut names = Vec::new(rt.alloc());
     let read = match rt.open_dir(path.as_str()) {
         Ok(entries) => push_names(rt.alloc(), entries, LineEnd::Null, &mut names),
@@ -171,7 +198,15 @@ fn is_kept<R: Files + AllocGlobal>(
     is_named: bool,
     search: &mut Search,
     kept: &mut KeptFiles,
-) -> Result<bool, AllocError> {
+) -> Result<bool, AllocError>
+    ensures waiting { (name : List ℕ) → IsFrom name file.now
+        → OnOk result (Adds (folder_at name) search.old.waiting.items search.new.waiting.items) }
+    ensures files { kept.new.files ≡ kept.old.files }
+    ensures repeats { kept.new.repeats ≡ kept.old.repeats }
+    ensures games { IfOk result (λ is_kept. is_kept ≡ false
+        → (search.new.has_games ≡ search.old.has_games) ⊎ ((search.new.has_games ≡ true)
+        × MayBePassedOver kept.old.repeats kept.old.files.items)) }
+{
     let CollectionFile::Input(Input::File(path)) = file else {
         return Ok(true);
     };
@@ -191,28 +226,19 @@ fn is_kept<R: Files + AllocGlobal>(
     Ok(is_named)
 }
 
-/// A file that was named; `-` is standard input.
-fn file_named(alloc: Global, path: &[u8]) -> Result<CollectionFile, AllocError> {
-    if path == b"-".as_slice() {
-        Ok(CollectionFile::Input(Input::Standard))
-    } else {
-        file_in(alloc, b"", path)
-    }
-}
-
-/// Adds the file at a path, or the game files below the folder there: those whose names end in
-/// `.efg` or `.nfg`, in upper or lower case, each folder ordered by the bytes of its names. What is
-/// hidden, by a name that begins with a full stop, is passed over, unless it is named. No folder is
-/// visited twice, so links may lead anywhere. A name that is not UTF-8 may be that of a game file or
-/// of a folder, so it is added too. Returns whether there was any, be it new or not.
-pub fn push_files<R: Files + AllocGlobal>(
+/// Adds the file at a path, or the game files below the folder there. Returns whether there was any.
+fn push_below<R: Files + AllocGlobal>(
     rt: &R,
     path: &[u8],
     kept: &mut KeptFiles,
-) -> Result<bool, AllocError> {
+) -> Result<bool, AllocError>
+    ensures repeats { kept.new.repeats ≡ kept.old.repeats }
+    ensures files { IfOk result (λ some.
+        IsFollowed kept.old.repeats path.now kept.old.files.items some kept.new.files.items) }
+{
     let alloc = rt.alloc();
     let mut search = Search {
-        waiting: vec![in alloc; file_named(alloc, path)?]?,
+        waiting: vec![in alloc; file_in(alloc, b"", path)?]?,
         folders: BTreeSet::new(alloc),
         has_games: false,
     };
@@ -226,4 +252,28 @@ pub fn push_files<R: Files + AllocGlobal>(
         }
     }
     Ok(search.has_games)
+}
+
+/// Adds the file at a path, or the game files below the folder there: those whose names end in
+/// `.efg` or `.nfg`, in upper or lower case, each folder ordered by the bytes of its names. What is
+/// hidden, by a name that begins with a full stop, is passed over, unless it is named. No folder is
+/// visited twice, so links may lead anywhere. A name that is not UTF-8 may be that of a game file or
+/// of a folder, so it is added too. `-` is standard input. Returns whether there was any, be it new
+/// or not.
+pub fn push_files<R: Files + AllocGlobal>(
+    rt: &R,
+    path: &[u8],
+    kept: &mut KeptFiles,
+) -> Result<bool, AllocError>
+    ensures repeats { kept.new.repeats ≡ kept.old.repeats }
+    ensures files { IfOk result (λ some. (own : List CollectionFile)
+        × (kept.new.files.items ≡ kept.old.files.items ++ own)
+        × LeadsTo kept.old.repeats kept.old.files.items path.now own
+        (if some then [] else utf8_lossy path.now ∷ [])) }
+{
+    if path == b"-".as_slice() {
+        kept.files.push(CollectionFile::Input(Input::Standard))?;
+        return Ok(true);
+    }
+    push_below(rt, path, kept)
 }

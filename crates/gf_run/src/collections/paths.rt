@@ -1,10 +1,9 @@
 //! The files of a collection: those that words or a list of names lead to.
 
-ghost use Rattle.std.specs.Prelude.{◌≡◌, [], IfErr, IfOk, map};
-ghost use Rattle.std.specs.Str.Lossy.{utf8_lossy};
+ghost use Rattle.std.specs.Prelude.{◌≡◌, [], ◌∷◌, IfErr, IfOk, map};
 ghost use Rattle.std.specs.String.{string_bytes};
-ghost use Rattle.gf_run.specs.Performs.{AreFoldersOf, ArePathsOpened, AreSomeOf, IsOfPaths};
-ghost use Rattle.gf_run.specs.Performs.{IsUnlisted};
+ghost use Rattle.gf_run.specs.LedTo.{AreFilesOf, AreLedTo};
+ghost use Rattle.gf_run.specs.Performs.{ArePathsOpened, IsUnlisted};
 
 use crate::collections::file::CollectionFile;
 use crate::collections::folders::{KeptFiles, Repeats, is_whole, push_files, push_names};
@@ -49,7 +48,7 @@ fn files_led_to<R: Files + AllocGlobal, P: AsSlice<u8>>(
     paths: &[P],
     repeats: Repeats,
 ) -> Result<FoundFiles, AllocError>
-    ensures { IfOk result (λ found. AreSomeOf (map (λ path. utf8_lossy (P.items path)) paths.now)
+    ensures { IfOk result (λ found. AreLedTo repeats (map P.items paths.now) found.files.items
         (map string_bytes found.without_games.items)) }
 {
     let mut kept = KeptFiles::new(rt.alloc(), repeats);
@@ -69,7 +68,8 @@ fn files_led_to<R: Files + AllocGlobal, P: AsSlice<u8>>(
 
 /// Standard input alone.
 fn standard_input<R: AllocGlobal>(rt: &R) -> Result<FoundFiles, AllocError>
-    ensures files { IfOk result (λ found. IsOfPaths Paths.Standard found.files.items) }
+    ensures files { IfOk result (λ found.
+        found.files.items ≡ CollectionFile.Input Input.Standard ∷ []) }
     ensures folders { IfOk result (λ found. found.without_games.items ≡ []) }
 {
     let input = CollectionFile::Input(Input::Standard);
@@ -94,9 +94,8 @@ pub fn files_at<R: Files + AllocGlobal, I: Inputs>(
     repeats: Repeats,
 ) -> Result<FoundFiles, RunFault>
     ensures opened { ArePathsOpened I.opener paths.now inputs.old inputs.new }
-    ensures files { IfOk result (λ found. IsOfPaths paths.now found.files.items) }
-    ensures folders { IfOk result (λ found.
-        AreFoldersOf paths.now (map string_bytes found.without_games.items)) }
+    ensures files { IfOk result (λ found. AreFilesOf repeats paths.now found.files.items
+        (map string_bytes found.without_games.items)) }
     ensures fault { IfErr result (IsUnlisted paths.now) }
 {
     match paths {

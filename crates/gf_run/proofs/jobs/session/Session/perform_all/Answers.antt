@@ -6,8 +6,8 @@ use Rattle.gf_run.proofs.jobs.session.Session.perform_all.Goals as goal
 pub returns-in-Ok-clause-performed : goal.returns-in-Ok-clause-performed
 returns-in-Ok-clause-performed g c = found c.in-Ok.found.files.items
     (map string_bytes c.in-Ok.found.without_games.items) _
-    c.in-Ok.ensures.opened refl c.in-Ok.ensures.files
-    c.in-Ok.ensures.folders (rw c.as_slice.ensures.value at c.tell_without_games.ensures)
+    c.in-Ok.ensures.opened refl (rw c.repeats.ensures at c.in-Ok.ensures.files)
+    (rw c.as_slice.ensures.value at c.tell_without_games.ensures)
     (rw c.as_slice-in-Ok.ensures.value at c.run_task.ensures.done)
 
 pub returns-in-Err-clause-performed : goal.returns-in-Err-clause-performed
