@@ -2,7 +2,7 @@
 use Rattle.std.proofs.Common.{◌≡◌, Result, Err, IfErr, IsErrAnd, MatchResult, OnErr, arith}
 use Rattle.std.specs.Prelude.{⊤}
 use Rattle.gf_run.specs.Performs.{without_cause}
-use Rattle.gf_run.specs.declared.collections.rewrite.Failed.{Failed}
+use Rattle.gf_run.specs.declared.explain.Failed.{Failed}
 use Rattle.gf_run.specs.declared.fault.RunFault.{RunFault}
 
 -- an error, and what holds whether there is one or not

@@ -30,7 +30,7 @@ use Rattle.gf_run.specs.declared.collections.collection.Task.{Task}
 use Rattle.gf_run.specs.declared.collections.file.CollectionFile.{CollectionFile}
 use Rattle.gf_run.specs.declared.collections.folders.Repeats.{Repeats}
 use Rattle.gf_run.specs.declared.collections.line.FileLine.{FileLine}
-use Rattle.gf_run.specs.declared.collections.rewrite.Failed.{Failed}
+use Rattle.gf_run.specs.declared.explain.Failed.{Failed}
 use Rattle.gf_run.specs.declared.fault.RunFault.{RunFault}
 use Rattle.gf_run.specs.declared.fault.Which.{Which}
 use Rattle.gf_run.specs.declared.jobs.one_file.OneTask.{OneTask}
@@ -273,13 +273,13 @@ IsUnlisted (Paths.List list end) (RunFault.Read Which.Only) = Unit {0}
 IsUnlisted paths RunFault.Memory = Unit {0}
 IsUnlisted paths fault = ⊥
 
--- Why the files are not known was reported: that a list could not be read, after its name; or that
--- memory ran out.
-abbrev pub IsToldOfPaths : {E : Type 0} → Stream E → Paths → RunFault → ℕ → E → E → Type 0
-IsToldOfPaths errors (Paths.List list end) fault status old new =
-    IsToldOf errors (word_of list) None fault status old new
+-- Why the files are not known was reported: that a list could not be read, after its name, and
+-- explained if `explain` is true; or that memory ran out.
+abbrev pub IsToldOfPaths : {E : Type 0} → Stream E → Bool → Paths → RunFault → ℕ → E → E → Type 0
+IsToldOfPaths errors explain (Paths.List list end) fault status old new =
+    IsToldOf errors (word_of list) (kept_at_first explain) fault status old new
     ⊎ ((status ≡ status_of fault) × IsTold errors (fault_line fault) old new)
-IsToldOfPaths errors paths fault status old new =
+IsToldOfPaths errors explain paths fault status old new =
     (status ≡ status_of fault) × IsTold errors (fault_line fault) old new
 
 -- what is said of folders that have no game files: a line for each
@@ -348,7 +348,7 @@ module _ {I S W E : Type 0} (opener : Opener I S) (reader : Stream S) (writer : 
     -- they are not, which was reported
     unlisted : (fault : RunFault) → IsUnlisted paths fault
         → ArePathsOpened opener paths a.inputs b.inputs → b.output ≡ a.output
-        → IsToldOfPaths errors paths fault status a.errors b.errors
+        → IsToldOfPaths errors explain paths fault status a.errors b.errors
         → PerformsAll task paths status a b
 
   abbrev pub Performs : Job → ℕ → World I W E → World I W E → Type 0

@@ -1,8 +1,9 @@
 //! A fault of a run in words, and what the system says about it.
 
-ghost use Rattle.std.specs.Prelude.{IfOk};
+ghost use Rattle.std.specs.Prelude.{◌≡◌, IfOk};
 ghost use Rattle.gf_explain.specs.Explained.{IsSaidAfter};
 ghost use Rattle.gf_run.specs.Reports.{IsExplained};
+ghost use Rattle.gf_run.specs.declared.fault.RunFault.{RunFault};
 
 use crate::fault::RunFault;
 use crate::streams::last_error::LastError;
@@ -34,6 +35,30 @@ impl Cause {
     }
 }
 
+/// A fault, and what the system says about it.
+#[derive(Clone, Copy)]
+pub struct Failed {
+    pub fault: RunFault,
+    pub cause: Cause,
+}
+
+impl From<RunFault> for Failed {
+    ghost from_gives = { λ fault failed. failed.fault ≡ fault };
+
+    fn from(fault: RunFault) -> Failed {
+        let cause = Cause::Transfer(None);
+        Failed { fault, cause }
+    }
+}
+
+impl From<AllocError> for Failed {
+    ghost from_gives = { λ _ failed. failed.fault ≡ RunFault.Memory };
+
+    fn from(_: AllocError) -> Failed {
+        Failed::from(RunFault::Memory)
+    }
+}
+
 /// What the system says about a fault of a run over this source and this output.
 pub fn cause_of<S: LastError, W: LastError>(fault: &RunFault, source: &S, output: &W) -> Cause {
     match fault {
@@ -51,7 +76,7 @@ pub fn cause_of_source<S: LastError>(fault: &RunFault, source: &S) -> Cause {
 }
 
 /// A line, what failed, and what the system says about that, if it says anything.
-fn failed(
+fn failure_text(
     alloc: Global,
     line: &[u8],
     words: &str,
@@ -98,8 +123,8 @@ pub fn explanation(
                 (_, Cause::Opening(_)) => ("cannot open ", called.as_str()),
                 (_, Cause::Transfer(_)) => ("cannot read ", called.as_str()),
             };
-            failed(alloc, line, words, called, &cause.error())
+            failure_text(alloc, line, words, called, &cause.error())
         }
-        RunFault::Memory => failed(alloc, line, "out of memory", "", &None),
+        RunFault::Memory => failure_text(alloc, line, "out of memory", "", &None),
     }
 }

@@ -11,9 +11,9 @@ use crate::collections::folders::Repeats;
 use crate::collections::line::FileLine;
 use crate::collections::paths::files_at;
 use crate::collections::progress::Progress;
-use crate::explain::Cause;
+use crate::explain::Failed;
 use crate::fault::RunFault;
-use crate::jobs::ending::{after_name, tell, tell_of};
+use crate::jobs::ending::{after_name, nothing_kept, tell, tell_of};
 use crate::jobs::session::Session;
 use crate::opening::inputs::Inputs;
 use crate::streams::last_error::LastError;
@@ -47,14 +47,28 @@ impl Task {
 }
 
 /// Reports why the files of a collection are not known, and returns the exit status: E20 after the
-/// name of the list, or E19.
-fn tell_unlisted<E: Sink>(alloc: Global, paths: &Paths, fault: &RunFault, errors: &mut E) -> u8
-    ensures { IsToldOfPaths E.writer paths.now fault.now result errors.old errors.new }
+/// name of the list, explained if `explain` is true, or E19.
+fn tell_unlisted<E: Sink>(
+    alloc: Global,
+    paths: &Paths,
+    failed: &Failed,
+    explain: bool,
+    errors: &mut E,
+) -> u8
+    ensures { IsToldOfPaths E.writer explain paths.now failed.now.fault result
+        errors.old errors.new }
 {
+    let Failed { fault, cause } = failed;
     match (paths, fault) {
         (Paths::List { list, .. }, RunFault::Read(_)) => {
-            let cause = Cause::Transfer(None);
-            tell_of(alloc, fault, &cause, word_of(list), None, errors)
+            tell_of(
+                alloc,
+                fault,
+                cause,
+                word_of(list),
+                nothing_kept(explain),
+                errors,
+            )
         }
         _ => tell(fault, errors),
     }
@@ -106,7 +120,8 @@ impl<I: Inputs, P: Progress, W: Sink + LastError, E: Sink> Session<'_, '_, '_, '
     /// Does a task for the files of a collection, and returns the exit status.
     ///
     /// All paths are followed before a file is opened. If memory runs out then, E19 is reported; if
-    /// a list of names cannot be read, E20 is reported after its name.
+    /// a list of names cannot be opened or read, E20 is reported after its name, and explained if
+    /// `explain` is true.
     pub(crate) fn perform_all<R>(&mut self, rt: &R, paths: &Paths, task: Task) -> u8
     where
         R: Files + AllocGlobal,
@@ -119,7 +134,7 @@ impl<I: Inputs, P: Progress, W: Sink + LastError, E: Sink> Session<'_, '_, '_, '
                 tell_without_games(self.alloc, found.without_games.as_slice(), self.errors);
                 self.run_task(found.files.as_slice(), task)
             }
-            Err(fault) => tell_unlisted(self.alloc, paths, &fault, self.errors),
+            Err(failed) => { tell_unlisted(self.alloc, paths, &failed, self.explain, self.errors) }
         }
     }
 }

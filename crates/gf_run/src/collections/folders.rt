@@ -118,7 +118,7 @@ pub(crate) fn push_names<R: Read + Drop>(
 }
 
 /// Whether something was read whole, unless memory ran out.
-pub(crate) fn is_whole(read: io::Result<()>) -> Result<bool, AllocError> {
+fn is_whole(read: io::Result<()>) -> Result<bool, AllocError> {
     match read {
         Ok(()) => Ok(true),
         Err(error) if error.kind() == ErrorKind::OutOfMemory => Err(AllocError),

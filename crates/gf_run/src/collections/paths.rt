@@ -4,14 +4,18 @@ ghost use Rattle.std.specs.Prelude.{◌≡◌, [], ◌∷◌, IfErr, IfOk, map};
 ghost use Rattle.std.specs.String.{string_bytes};
 ghost use Rattle.gf_run.specs.LedTo.{AreFilesOf, AreLedTo};
 ghost use Rattle.gf_run.specs.Performs.{ArePathsOpened, IsUnlisted};
+ghost use Rattle.gf_run.specs.declared.fault.RunFault.{RunFault};
+ghost use Rattle.gf_run.specs.declared.fault.Which.{Which};
 
 use crate::collections::file::CollectionFile;
-use crate::collections::folders::{KeptFiles, Repeats, is_whole, push_files, push_names};
+use crate::collections::folders::{KeptFiles, Repeats, push_files, push_names};
+use crate::explain::{Cause, Failed};
 use crate::fault::{RunFault, Which};
 use crate::opening::inputs::{Inputs, open_input};
 use gf_words::{Input, LineEnd, Paths};
 use std::alloc::AllocError;
 use std::convert::AsSlice;
+use std::io::ErrorKind;
 use std::rt::Files;
 
 /// The files of a collection, and the folders that were named and have no game files.
@@ -21,24 +25,33 @@ pub struct FoundFiles {
     pub without_games: Vec<String>,
 }
 
+/// A list of names that cannot be opened or read.
+fn unread(cause: Cause) -> Failed
+    ensures { result.fault ≡ RunFault.Read Which.Only }
+{
+    let fault = RunFault::Read(Which::Only);
+    Failed { fault, cause }
+}
+
 /// The names in a list, each of which has this end; the last one may end with the list.
 fn names_in<R: AllocGlobal, I: Inputs>(
     rt: &R,
     inputs: &mut I,
     list: &Input,
     end: LineEnd,
-) -> Result<Vec<Vec<u8>>, RunFault>
+) -> Result<Vec<Vec<u8>>, Failed>
     ensures opened { ArePathsOpened I.opener (Paths.List list.now end) inputs.old inputs.new }
-    ensures fault { IfErr result (IsUnlisted (Paths.List list.now end)) }
+    ensures fault { IfErr result (λ failed. IsUnlisted (Paths.List list.now end) failed.fault) }
 {
-    let Ok(input) = open_input(inputs, list) else {
-        return Err(RunFault::Read(Which::Only));
+    let input = match open_input(inputs, list) {
+        Ok(input) => input,
+        Err(error) => return Err(unread(Cause::Opening(error))),
     };
     let mut names = Vec::new(rt.alloc());
-    if is_whole(push_names(rt.alloc(), input, end, &mut names))? {
-        Ok(names)
-    } else {
-        Err(RunFault::Read(Which::Only))
+    match push_names(rt.alloc(), input, end, &mut names) {
+        Ok(()) => Ok(names),
+        Err(error) if error.kind() == ErrorKind::OutOfMemory => Err(Failed::from(AllocError)),
+        Err(error) => Err(unread(Cause::Transfer(Some(error)))),
     }
 }
 
@@ -92,11 +105,11 @@ pub fn files_at<R: Files + AllocGlobal, I: Inputs>(
     inputs: &mut I,
     paths: &Paths,
     repeats: Repeats,
-) -> Result<FoundFiles, RunFault>
+) -> Result<FoundFiles, Failed>
     ensures opened { ArePathsOpened I.opener paths.now inputs.old inputs.new }
     ensures files { IfOk result (λ found. AreFilesOf repeats paths.now found.files.items
         (map string_bytes found.without_games.items)) }
-    ensures fault { IfErr result (IsUnlisted paths.now) }
+    ensures fault { IfErr result (λ failed. IsUnlisted paths.now failed.fault) }
 {
     match paths {
         Paths::Standard => Ok(standard_input(rt)?),

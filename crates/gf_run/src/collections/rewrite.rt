@@ -6,7 +6,7 @@ ghost use Rattle.gf_run.specs.Performs.{RewritesNext, unreplaced_fault, without_
 
 use crate::collections::file::{CollectionFile, name_of, open_file};
 use crate::collections::progress::Progress;
-use crate::explain::{Cause, cause_of_source};
+use crate::explain::{Cause, Failed, cause_of_source};
 use crate::fault::{RunFault, Which};
 use crate::jobs::ending::{tell_of, tell_unopened_of};
 use crate::jobs::session::Session;
@@ -19,22 +19,6 @@ use gf_canon::Names;
 use gf_nfg::TextPieces;
 use gf_words::Input;
 use std::alloc::Global;
-
-/// A fault, and what the system says about it.
-#[derive(Clone, Copy)]
-struct Failed {
-    fault: RunFault,
-    cause: Cause,
-}
-
-impl From<RunFault> for Failed {
-    ghost from_gives = { λ fault failed. failed.fault ≡ fault };
-
-    fn from(fault: RunFault) -> Failed {
-        let cause = Cause::Transfer(None);
-        Failed { fault, cause }
-    }
-}
 
 impl From<Unreplaced> for Failed {
     ghost from_gives = { λ why failed. failed.fault ≡ unreplaced_fault why };

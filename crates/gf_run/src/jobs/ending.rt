@@ -54,7 +54,7 @@ pub(crate) fn tell_of_file<E: Sink>(
 }
 
 /// What is kept of an input of which nothing was read.
-fn nothing_kept(explain: bool) -> Option<&'static [u8]>
+pub(crate) fn nothing_kept(explain: bool) -> Option<&'static [u8]>
     ensures { option_map (λ bytes. bytes.now) result ≡ kept_at_first explain }
 {
     let nothing: &[u8] = &[];

@@ -12,5 +12,5 @@ returns-in-Ok-clause-performed g c = found c.in-Ok.found.files.items
 
 pub returns-in-Err-clause-performed : goal.returns-in-Err-clause-performed
 returns-in-Err-clause-performed g c =
-    unlisted c.in-Err.fault c.in-Err.ensures.fault c.in-Err.ensures.opened refl
+    unlisted c.in-Err.failed.fault c.in-Err.ensures.fault c.in-Err.ensures.opened refl
     c.tell_unlisted.ensures
