@@ -3,7 +3,7 @@ use Rattle.std.specs.Prelude.{◌≡◌, ◌≢◌, ℕ, List, ◌++◌, codes, 
 use Rattle.gf_token.specs.declared.fault.Fault.{Fault}
 use Rattle.gf_token.specs.declared.fault.Why.TheVariants.{TooLong}
 use Rattle.gf_explain.specs.FaultLine.{place_text}
-use Rattle.gf_explain.specs.Place.{IsPlaceAfter}
+use Rattle.gf_explain.specs.Place.{EndsLine, IsPlaceAfter}
 use Rattle.gf_explain.specs.Shown.{IsShown, shown_name}
 use Rattle.gf_explain.specs.declared.place.Place.{Place}
 
@@ -23,10 +23,11 @@ pub data IsWhere (fault : Fault) (name bytes text : List ℕ) : Type 0 where
       → text ≡ placed_text name place → IsWhere fault name bytes text
   unplaced : fault.why ≡ TooLong → text ≡ unplaced_text name → IsWhere fault name bytes text
 
--- a line, and after it what is shown
+-- a line, and after it what is shown, in whole lines
 pub record IsSaidAfter (line text : List ℕ) : Type 0 where
   pub rest : List ℕ
   pub is_shown : IsShown rest
+  pub is_whole : EndsLine rest
   pub is_text : text ≡ line ++ codes ": " ++ rest
 
 -- an explanation of the refusal of the file with this name and these bytes: its first line has the

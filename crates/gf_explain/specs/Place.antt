@@ -10,9 +10,13 @@ line_feed = 10
 abbrev pub line_feeds : List ℕ → ℕ
 line_feeds = count_by (nat_eq line_feed)
 
+-- the text ends with a line feed
+abbrev pub EndsLine : List ℕ → Type 0
+EndsLine text = (before : List ℕ) × (text ≡ before ++ line_feed ∷ [])
+
 -- the text is empty, or ends with a line feed
 abbrev pub BeginsLine : List ℕ → Type 0
-BeginsLine text = (text ≡ []) ⊎ ((before : List ℕ) × (text ≡ before ++ line_feed ∷ []))
+BeginsLine text = (text ≡ []) ⊎ EndsLine text
 
 -- the line that a text ends with: the bytes since its last line feed, all of it if it has none
 pub record IsLastLine (text line : List ℕ) : Type 0 where

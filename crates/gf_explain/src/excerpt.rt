@@ -1,5 +1,8 @@
 //! The line of a file that a fault is about, with marks under the place.
 
+ghost use Rattle.std.specs.Prelude.{OnOk};
+ghost use Rattle.gf_explain.specs.Place.{EndsLine};
+
 use crate::place::Place;
 use crate::shown::{Part, ShownText, push_line, takes_columns};
 use gf_token::Span;
@@ -93,7 +96,9 @@ pub fn push_excerpt(
     bytes: &[u8],
     span: Span,
     place: Place,
-) -> Result<(), AllocError> {
+) -> Result<(), AllocError>
+    ensures { OnOk result (EndsLine text.new) }
+{
     let (before, rest) = bytes.split_at(span.start.min(bytes.len()));
     let line_start = (before.len() + 1).saturating_sub(place.column);
     let excerpt = cut(
@@ -110,7 +115,9 @@ fn push_lines<'a>(
     text: &mut ShownText,
     number: &'a [u8],
     excerpt: &Excerpt<'a>,
-) -> Result<(), AllocError> {
+) -> Result<(), AllocError>
+    ensures { OnOk result (EndsLine text.new) }
+{
     let has_marks = takes_columns(excerpt.marked);
     push_line(
         text,

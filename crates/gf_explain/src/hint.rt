@@ -1,5 +1,8 @@
 //! How to mend a file: the sentence of each mistake.
 
+ghost use Rattle.std.specs.Prelude.{OnOk};
+ghost use Rattle.gf_explain.specs.Place.{EndsLine};
+
 use crate::mistake::Mistake;
 use crate::shown::{Part, ShownText, push_part};
 use itoa::Buffer;
@@ -104,7 +107,9 @@ fn sentence_of(mistake: &Mistake) -> (&'static str, [usize; 4]) {
 }
 
 /// Appends how to mend a file.
-pub fn push_hint(text: &mut ShownText, mistake: &Mistake) -> Result<(), AllocError> {
+pub fn push_hint(text: &mut ShownText, mistake: &Mistake) -> Result<(), AllocError>
+    ensures { OnOk result (EndsLine text.new) }
+{
     let (sentence, numbers) = sentence_of(mistake);
     push_part(text, Part::Shown(b"  hint: "))?;
     let mut next = 0;

@@ -1,6 +1,9 @@
 //! What is wrong with a file, in a sentence. The sentences that name no token are those of
 //! library/gamefile.c, which has general ones where these say which number is due or new.
 
+ghost use Rattle.std.specs.Prelude.{OnOk};
+ghost use Rattle.gf_explain.specs.Place.{EndsLine};
+
 use crate::context::{Context, Index};
 use crate::excerpt::front_of;
 use crate::mistake::Refusal;
@@ -161,12 +164,16 @@ fn named(token: &[u8]) -> [&[u8]; 3] {
 }
 
 /// Appends a line of these words.
-pub fn push_words(text: &mut ShownText, words: &str) -> Result<(), AllocError> {
+pub fn push_words(text: &mut ShownText, words: &str) -> Result<(), AllocError>
+    ensures { OnOk result (EndsLine text.new) }
+{
     push_line(text, &[Part::Shown(words.as_bytes())])
 }
 
 /// Appends what is wrong with a file.
-pub fn push_sentence(text: &mut ShownText, refusal: &Refusal<'_>) -> Result<(), AllocError> {
+pub fn push_sentence(text: &mut ShownText, refusal: &Refusal<'_>) -> Result<(), AllocError>
+    ensures { OnOk result (EndsLine text.new) }
+{
     match sentence_of(refusal) {
         Sentence::Plain(words) => push_words(text, words),
         Sentence::Naming(before, named_token, after) => {
@@ -186,7 +193,9 @@ pub fn push_sentence(text: &mut ShownText, refusal: &Refusal<'_>) -> Result<(), 
 }
 
 /// Appends why a game has no table.
-pub fn push_form(text: &mut ShownText, fault: &FormFault) -> Result<(), AllocError> {
+pub fn push_form(text: &mut ShownText, fault: &FormFault) -> Result<(), AllocError>
+    ensures { OnOk result (EndsLine text.new) }
+{
     match fault {
         FormFault::TooManyProfiles => push_words(
             text,

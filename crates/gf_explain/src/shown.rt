@@ -1,7 +1,8 @@
 //! Bytes of a file as a terminal may show them.
 
-ghost use Rattle.std.specs.Prelude.{◌≡◌, IfOk, false};
+ghost use Rattle.std.specs.Prelude.{◌≡◌, IfOk, OnOk, false};
 ghost use Rattle.std.specs.String.{string_bytes};
+ghost use Rattle.gf_explain.specs.Place.{EndsLine};
 ghost use Rattle.gf_explain.specs.Shown.{IsShown, is_obeyed, shown_character, shown_name};
 
 use std::alloc::{AllocError, Global};
@@ -50,8 +51,10 @@ impl ShownText {
     }
 
     /// Ends a line.
-    // No clause: nothing is said of what is shown.
-    pub fn end_line(&mut self) -> Result<(), AllocError> {
+    // No edit: `push_line` calls it and has one.
+    pub fn end_line(&mut self) -> Result<(), AllocError>
+        ensures { OnOk result (EndsLine self.new) }
+    {
         self.text.push('\n')
     }
 }
@@ -144,8 +147,9 @@ pub fn push_part(text: &mut ShownText, part: Part<'_>) -> Result<(), AllocError>
 }
 
 /// Appends a line of these parts.
-// No clause: nothing is said of what is shown.
-pub fn push_line(text: &mut ShownText, parts: &[Part<'_>]) -> Result<(), AllocError> {
+pub fn push_line(text: &mut ShownText, parts: &[Part<'_>]) -> Result<(), AllocError>
+    ensures { OnOk result (EndsLine text.new) }
+{
     for part in parts {
         push_part(text, *part)?;
     }

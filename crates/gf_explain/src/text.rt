@@ -1,10 +1,12 @@
 //! The text of an explanation.
 
-ghost use Rattle.std.specs.Prelude.{◌≡◌, IfOk};
+ghost use Rattle.std.specs.Prelude.{◌≡◌, ◌++◌, IfOk, OnOk, codes};
 ghost use Rattle.std.specs.List.{flat_map};
 ghost use Rattle.gf_explain.specs.Explained.{IsExplained, IsSaidAfter, IsWhere};
 ghost use Rattle.gf_explain.specs.Explained.{placed_text, unplaced_text};
 ghost use Rattle.gf_explain.specs.FaultLine.{form_text};
+ghost use Rattle.gf_explain.specs.Place.{EndsLine};
+ghost use Rattle.gf_explain.specs.Shown.{IsShown};
 
 use crate::context::context_of;
 use crate::excerpt::push_excerpt;
@@ -64,7 +66,9 @@ fn where_of(alloc: Global, fault: &Fault, name: &str, bytes: &[u8]) -> Result<Ve
 }
 
 /// Appends what is wrong with a file, the line of the place, and a hint.
-fn push_refusal(text: &mut ShownText, fault: &Fault, bytes: &[u8]) -> Result<(), AllocError> {
+fn push_refusal(text: &mut ShownText, fault: &Fault, bytes: &[u8]) -> Result<(), AllocError>
+    ensures { OnOk result (EndsLine text.new) }
+{
     let start = fault.span.start.min(bytes.len());
     let end = fault.span.end.min(bytes.len()).max(start);
     let before = &bytes[..start];
@@ -87,7 +91,8 @@ fn push_refusal(text: &mut ShownText, fault: &Fault, bytes: &[u8]) -> Result<(),
 /// A line, and after it what is shown.
 // No edit: it puts parts together.
 pub fn said_after(alloc: Global, line: &[u8], text: &ShownText) -> Result<Vec<u8>, AllocError>
-    ensures { IfOk result (λ said. IsSaidAfter line.now said.items) }
+    ensures text { IfOk result (λ said. said.items ≡ line.now ++ codes ": " ++ text.now) }
+    ensures shown { IsShown text.now }
 {
     joined(alloc, &[line, b": ", text.as_bytes()])
 }

@@ -1,6 +1,6 @@
 use Rattle.std.proofs.Common.{◌≡◌, ◌++◌, ◌∙◌, List, ℕ, subst}
 use Rattle.std.proofs.lemmas.Result.{IfOk-weaker}
-use Rattle.gf_explain.specs.Explained.{IsSaidAfter, IsWhere}
+use Rattle.gf_explain.specs.Explained.{IsWhere}
 use Rattle.gf_explain.specs.FaultLine.{place_text}
 use Rattle.gf_explain.proofs.text.refusal_explanation.Goals as goal
 
@@ -13,5 +13,10 @@ returns c =
       head = head;
       is_where = subst (λ (name : List ℕ). IsWhere c.args.fault.now name c.args.bytes.now head)
           (c.as_str.ensures.value ∙ c.in_ok-called.ensures) c.in_ok-line.ensures;
-      is_text = subst (λ (line : List ℕ). IsSaidAfter line text.items) line is;
-    }) c.said_after.ensures
+      is_text = record {
+        rest = c.push_refusal.new.text;
+        is_shown = c.said_after.ensures.shown;
+        is_whole = c.in_ok-push_refusal.ensures;
+        is_text = cc (is, line);
+      };
+    }) c.said_after.ensures.text
