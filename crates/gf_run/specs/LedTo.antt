@@ -79,12 +79,13 @@ abbrev pub Adds : List ℕ → List CollectionFile → List CollectionFile → T
 Adds folder old new =
     (added : List CollectionFile) × (new ≡ old ++ added) × All (IsIn folder) added
 
--- if it is known whether a game file of a name was met, after these files: whether it has some
+-- whether a game file of a name was met, after these files: if so, the name has some, unless they
+-- may be passed over; if not, it has none
 abbrev pub HasMet : Repeats → List CollectionFile → Bool → List CollectionFile → Type 0
 HasMet repeats before true own = (own ≢ []) ⊎ MayBePassedOver repeats before
 HasMet repeats before false own = own ≡ []
 
--- such files of a name were added
+-- a name was followed: its files were added, and it is said whether a game file was met
 abbrev pub IsFollowed : Repeats → List ℕ → List CollectionFile → Bool → List CollectionFile → Type 0
 IsFollowed repeats name old some new = (own : List CollectionFile) × (new ≡ old ++ own)
     × AreOf name own × HasMet repeats old some own

@@ -98,7 +98,7 @@ fn standard_input<R: AllocGlobal>(rt: &R) -> Result<FoundFiles, AllocError>
 ///
 /// # Errors
 ///
-/// - `Read`: a list of names cannot be opened or read.
+/// - `Read`: a list of names cannot be opened or read, for this cause.
 /// - `Memory`: memory ran out.
 pub fn files_at<R: Files + AllocGlobal, I: Inputs>(
     rt: &R,

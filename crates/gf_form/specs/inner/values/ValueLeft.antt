@@ -50,7 +50,7 @@ choices_of w = chosen_by w.game.now w.choices
 abbrev pub tree_value : Walk → ℕ → Tree Node → Option Ratio
 tree_value w k t = value w.game.now (choices_of w) (suc k) t
 
--- their payoff at a node, and what comes from below
+-- the player's payoff at a node, and what comes from below
 abbrev pub with_own : Walk → ℕ → ℕ → Option Ratio → Option Ratio
 with_own w k node below =
     plus_of (Some (payoff_at w.game.now (suc k) (node_there w node))) below
@@ -59,20 +59,20 @@ with_own w k node below =
 abbrev pub trees_left : Walk → ℕ → ℕ → Trees Node
 trees_left w node given = trees_of (drop given (child_trees (tree_there w node)))
 
--- their value at a node of chance, if this is the sum before the children that are left
+-- the player's value at a node of chance, if this is the sum before the children that are left
 abbrev pub drawn_value : Walk → ℕ → ℕ → ℕ → Option Ratio → Option Ratio
 drawn_value w k node given sum =
     with_own w k node (chance_value w.game.now (choices_of w) (suc k)
     (chances_at w.game.now (node_there w node)) (given + 1) sum (trees_left w node given))
 
--- their value at an open node, if that of the child that was entered is this
+-- the player's value at an open node, if that of the child that was entered is this
 abbrev pub open_value : Walk → ℕ → Open → Option Ratio → Option Ratio
 open_value w k (Choice node) below = with_own w k node below
 open_value w k (Chance node given sum) below =
     drawn_value w k node given (plus_of (Some (at_place sum.items k))
     (times_of (chances_at w.game.now (node_there w node) given) below))
 
--- their value at the last of these open nodes, if the first one is closed with this
+-- the player's value at the last of these open nodes, if the first one is closed with this
 abbrev pub whole_value : Walk → ℕ → List Open → Option Ratio → Option Ratio
 whole_value w k [] below = below
 whole_value w k (o ∷ os) below = whole_value w k os (open_value w k o below)
