@@ -13,14 +13,14 @@ use crate::lowest::lowest;
 use std::alloc::AllocError;
 use std::marker::Model;
 
-/// Why a number is refused. `M` is `2^127 - 1`.
+/// Why a number is refused.
 #[derive(Clone, Copy, Debug, PartialEq, Eq)]
 pub enum NumberFault {
     /// The text has none of the four shapes of a number.
     NotANumber,
     /// The denominator is zero.
     ZeroDenominator,
-    /// A part is above its bound.
+    /// A bound is broken; `Fraction::new` and `Fraction::read` say which.
     TooLarge,
 }
 

@@ -1,4 +1,4 @@
-//! The texts of numbers.
+//! Reading numbers: short ones in one pass, others by their shape and then by their value.
 
 ghost use Rattle.std.specs.Prelude.{◌≡◌, ◌≤◌, ◌<◌, ◌^◌, ◌++◌, ℕ, List, length, take, drop};
 ghost use Rattle.std.specs.Prelude.{unsigned_abs, IfSome, MatchOption, MatchResult};
@@ -24,9 +24,9 @@ const TOO_LARGE: u128 = LARGEST + 1;
 
 /// The greatest exponent, the greatest count of digits after a point, and the greatest power of
 /// ten.
-const POWER: i32 = 38;
+const GREATEST_POWER: i32 = 38;
 
-/// The greatest power of ten of 64 bits.
+/// 10^19 is the greatest power of ten that fits 64 bits.
 const WORD_PLACES: usize = 19;
 
 /// What a text of one of the shapes says after its sign.
@@ -192,7 +192,7 @@ fn scan_exponent(text: &[u8]) -> Option<i32>
     if size.len == 0 || !size.rest.is_empty() {
         return None;
     }
-    let size = size.value.min(POWER as u128 + 1) as i32;
+    let size = size.value.min(GREATEST_POWER as u128 + 1) as i32;
     Some(if negative { -size } else { size })
 }
 
@@ -307,11 +307,15 @@ fn decimal(
     ensures { MatchResult result (λ f. IsValueOf negative (decimal digits places exponent) f)
         (λ fault. HasReadingFault (decimal digits places exponent) fault) }
 {
-    if digits > LARGEST || places > POWER as usize || exponent > POWER || exponent < -POWER {
+    if digits > LARGEST
+        || places > GREATEST_POWER as usize
+        || exponent > GREATEST_POWER
+        || exponent < -GREATEST_POWER
+    {
         return Err(NumberFault::TooLarge);
     }
     let power = places as i32 - exponent;
-    if power > POWER {
+    if power > GREATEST_POWER {
         return Err(NumberFault::TooLarge);
     }
     scaled(negative, digits, power)
@@ -363,9 +367,9 @@ impl Fraction {
     }
 
     /// The number that a sign, digits of the value `num` and the first bytes of a text spell
-    /// together, and how many bytes these are: none, `/` and digits, or `.` and digits. So who has
-    /// read the digits need not read them again. Digits for which 64 bits have no room and
-    /// exponents are not read, so more bytes of a number may follow.
+    /// together, and how many bytes these are: none, `/` and digits, or `.` and digits. So a
+    /// caller that has read the digits need not read them again. Digits for which 64 bits have no
+    /// room and exponents are not read, so more bytes of a number may follow.
     ///
     /// `None` if the denominator is zero or has no digits, or if too many digits follow the point.
     /// Then only `Fraction::read` tells whether there is a number.

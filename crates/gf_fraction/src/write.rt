@@ -9,7 +9,8 @@ use crate::fraction::Fraction;
 use itoa::{Buffer, write_digits};
 use std::alloc::AllocError;
 
-/// Room for a sign, nineteen digits, a slash and twenty digits, in whole vectors of the machine.
+/// Room for a sign, nineteen digits, a slash and twenty digits, rounded up to whole vectors of the
+/// machine (16 bytes).
 const ROOM: usize = 48;
 
 /// How many digits a number of at most four has.
@@ -83,8 +84,9 @@ fn write_parts(start: usize, size: u64, den: u64, text: &mut [u8]) -> usize
     write_under(end, den, text)
 }
 
-/// Appends `n`, or `n/d` if the denominator is above 1. Digits are written where they stay: it
-/// takes long to read back, several at once, bytes that were only just written.
+/// Appends `n`, or `n/d` if the denominator is above 1. The digits are written into the vector
+/// itself: a copy from a buffer would read, several bytes at once, what was stored byte by byte
+/// just before, and would have to wait for it.
 fn write_words(num: i64, den: u64, out: &mut Vec<u8>) -> Result<(), AllocError>
     ensures ok { OnOk result
         (out.new.items ≡ out.old.items ++ number_text (record { num = num; den = den })) }
@@ -132,8 +134,8 @@ impl Fraction {
     ///
     /// # Errors
     ///
-    /// `AllocError` if memory is refused, which can only be if the vector has not room for 80 bytes
-    /// more; its items are then as they were.
+    /// `AllocError` if memory is refused, which can happen only if the vector has no room for 80
+    /// more bytes; its items are then as they were.
     #[inline(always)]
     pub fn write(self, out: &mut Vec<u8>) -> Result<(), AllocError>
         ensures ok { OnOk result (out.new.items ≡ out.old.items ++ number_text self) }

@@ -119,7 +119,7 @@ impl Why {
     }
 }
 
-/// A text in the place of a number that does not spell one is refused for the same reason.
+/// A bare token that spells no number is refused for the reason that `Fraction::read` gives.
 impl From<NumberFault> for Why {
     ghost from_gives = { λ fault why. why ≡ why_of fault };
 

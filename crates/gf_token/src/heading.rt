@@ -13,7 +13,7 @@ impl<'a> Cursor<'a> {
     ///
     /// # Errors
     ///
-    /// Any other token, or the end, is refused, and nothing is taken.
+    /// E3 at any other token, or at the end; E2 at an unterminated text. Nothing is taken then.
     pub fn word(&mut self, word: &[u8], due: What) -> Result<(), Fault>
         ensures { MatchResult result (λ _. Takes (is_word word.now) self.old self.new)
             (IsNextRefused (is_word word.now) (Why.Expected due) self.old self.new) }
@@ -30,7 +30,7 @@ impl<'a> Cursor<'a> {
     ///
     /// # Errors
     ///
-    /// Any other token, or the end, is refused, and nothing is taken.
+    /// E3 at any other token, or at the end; E2 at an unterminated text. Nothing is taken then.
     pub fn letter(&mut self) -> Result<(), Fault>
         ensures { MatchResult result (λ _. Takes is_letter self.old self.new)
             (IsNextRefused is_letter (Why.Expected What.Letter) self.old self.new) }

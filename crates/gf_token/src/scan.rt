@@ -90,12 +90,13 @@ fn digit_value(byte: u8) -> u64
     u64::from(byte - b'0')
 }
 
-/// The value of this byte if it is a digit. Any other byte comes out above 9.
+/// The value of this byte if it is a digit.
 #[inline(always)]
 fn digit_in(byte: u8) -> Option<u64>
     ensures { MatchOption result (is_ascii_digit byte ≡ false)
         (λ digit. (is_ascii_digit byte ≡ true) × (digit ≡ digit_value byte)) }
 {
+    // Any other byte comes out above 9.
     let digit = u64::from(byte).wrapping_sub(48);
     if digit < 10 { Some(digit) } else { None }
 }

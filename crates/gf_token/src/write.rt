@@ -9,7 +9,11 @@ ghost use Rattle.gf_token.specs.Token.Token.{Text};
 use crate::label::Label;
 use std::alloc::AllocError;
 
-/// Appends the label between quotes. If memory runs out, `out` keeps the items that it had.
+/// Appends the label between quotes.
+///
+/// # Errors
+///
+/// `AllocError` if memory is refused; `out` has then the items that it had.
 pub fn write_label(label: Label<'_>, out: &mut Vec<u8>) -> Result<(), AllocError>
     ensures ok { OnOk result
         (out.new.items ≡ out.old.items ++ spelling (Text (label_of label.entry))) }

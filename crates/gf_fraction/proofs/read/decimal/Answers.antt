@@ -10,8 +10,8 @@ use Rattle.gf_fraction.proofs.read.decimal.Goals as goal
 pub returns-then-digits-gt-LARGEST : goal.returns-then-digits-gt-LARGEST
 returns-then-digits-gt-LARGEST c = grind (arith, power_of_ten-above, ints)
 
-pub returns-then-power-gt-POWER : goal.returns-then-power-gt-POWER
-returns-then-power-gt-POWER c = grind (arith, power_of_ten-above, ints)
+pub returns-then-power-gt-GREATEST_POWER : goal.returns-then-power-gt-GREATEST_POWER
+returns-then-power-gt-GREATEST_POWER c = grind (arith, power_of_ten-above, ints)
 
 pub returns : goal.returns
 returns c =
