@@ -14,6 +14,42 @@ use std::hash::{BuildHasher, DefaultHasher, FoldHasher, Hash, Hasher};
 /// long to find, whatever their hashes are.
 const FEW_KEYS: usize = 64;
 
+/// Where a hash has the bits that `indexmap` takes for the tag of a key, and not for its place.
+const TAG: u32 = 24;
+
+/// Hashes a number so that a map keeps its neighbours beside it: all but the last two bits choose the
+/// place in the map's table, and these two the tag, which tells the keys of one place apart.
+///
+/// Most files number their sets and outcomes in order: then four of them share a cache line of the
+/// table. Four numbers are also the most that a file can bring to one place.
+#[derive(Clone, Copy, Drop)]
+pub(crate) struct NumberHasher {
+    hasher: FoldHasher,
+    last_bits: u8,
+}
+
+impl Hasher for NumberHasher {
+    ghost use Rattle.gf_tree.specs.inner.Hashers.{number_write, number_finish};
+
+    ghost write = { number_write };
+
+    ghost finish = { number_finish };
+
+    fn finish(&self) -> u64 {
+        self.hasher
+            .finish()
+            .wrapping_add((self.last_bits as u64) << TAG)
+    }
+
+    fn write(&mut self, bytes: &[u8]) {
+        if let Some((lowest, others)) = bytes.split_first() {
+            self.hasher.write_u8(*lowest / 4);
+            self.hasher.write(others);
+            self.last_bits = *lowest % 4;
+        }
+    }
+}
+
 /// Makes hashers from the same start.
 #[derive(Clone, Copy)]
 pub(crate) struct Hashers {
@@ -46,14 +82,17 @@ impl Hashers {
 }
 
 impl BuildHasher for Hashers {
-    ghost use Rattle.gf_tree.specs.inner.Hashers.{start_of};
+    ghost use Rattle.gf_tree.specs.inner.Hashers.{number_hasher};
 
-    type Hasher = FoldHasher;
+    type Hasher = NumberHasher;
 
-    ghost build_hasher = { start_of };
+    ghost build_hasher = { number_hasher };
 
-    fn build_hasher(&self) -> FoldHasher {
-        self.start
+    fn build_hasher(&self) -> NumberHasher {
+        NumberHasher {
+            hasher: self.start,
+            last_bits: 0,
+        }
     }
 }
 

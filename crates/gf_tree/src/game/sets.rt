@@ -1,6 +1,6 @@
 //! The information sets that are known.
 
-ghost use Rattle.std.specs.Prelude.{◌≡◌, ◌≢◌, ◌+◌, ◌<◌, ◌^◌, ◌++◌, ℕ, [], ◌∷◌, None, Some, nat_eq};
+ghost use Rattle.std.specs.Prelude.{◌≡◌, ◌≢◌, ◌+◌, ◌*◌, ◌<◌, ◌^◌, ◌++◌, ℕ, [], ◌∷◌, None, Some, nat_eq};
 ghost use Rattle.std.specs.Prelude.{map, length, get_or, slice_get, option_map, position};
 ghost use Rattle.std.specs.Prelude.{MatchOption, OnOk, OnErr, IfOk};
 ghost use Rattle.std.specs.Map.{lookup};
@@ -19,13 +19,28 @@ use gf_fraction::Fraction;
 use gf_token::Label;
 use indexmap::IndexMap;
 use std::alloc::{AllocError, Global};
+use std::hash::{Hash, Hasher};
 use std::marker::Model;
 
 /// A set, by its player and its number.
-#[derive(Clone, Copy, PartialEq, Eq, Hash, Drop)]
+#[derive(Clone, Copy, PartialEq, Eq, Drop)]
 struct SetKey {
     player: u32,
     number: u32,
+}
+
+impl Hash for SetKey {
+    ghost use Rattle.std.specs.Cmp.Rules.{hashing};
+    ghost use Rattle.std.specs.Hash as fed;
+    ghost use borrow.Author.Rules.{rules};
+
+    ghost hash_input = { λ k. fed.u64 (k.player * 2 ^ 32 + k.number) };
+
+    ghost respects_eq = { Prim.search (hashing, rules) };
+
+    fn hash<H: Hasher>(&self, state: &mut H) {
+        state.write_u64(((self.player as u64) << 32) + self.number as u64);
+    }
 }
 
 /// What is stored of a set, in 32 bytes: its number among the sets of its player, how many actions
