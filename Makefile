@@ -1,7 +1,7 @@
 # `make` proves the crates and builds the proved program, ./gamefile, and `make run` shows what it
 # writes of an example; `make library` proves and builds the library for C and Python, and `make page`
-# makes of it a page that any browser opens; `make install PREFIX=..` puts the program, its man page
-# and, if it was built, the library in place, `make install-library PREFIX=..` the library alone, and
+# turns it into a page for a browser; `make install PREFIX=..` puts the program, its man page and, if it
+# was built, the library in place, `make install-library PREFIX=..` the library alone, and
 # `make uninstall PREFIX=..` removes all of these; `make page dist` makes a release, in dist; `make doc`
 # writes docs/out, pages about the sources; `make test` proves and tests everything; `make bench` times
 # the program and, if it was built, the library; `make clean` removes what was built.
