@@ -51,8 +51,8 @@ check_page() {
     fi
 }
 
-# The hooks for pre-commit run `check` and `canon --check` on game files, and on no others. A document
-# shows the first one.
+# The hooks for pre-commit run `check`, `canon --check` and `canon --write` on game files, and on no others.
+# A document shows the first one.
 check_hooks() {
     local hooks=$root/.pre-commit-hooks.yaml entries files
     mapfile -t entries < <(sed -n 's/^  entry: gamefile //p' "$hooks")
@@ -74,6 +74,12 @@ check_hooks() {
     # shellcheck disable=SC2086
     run ${entries[1]} "$accepted.nfg" "$scratch/refused.nfg"
     judge "the hook gamefile-canon" "$scratch/expected" "$scratch/lines" 2
+    cp "$accepted.nfg" "$scratch/hooked.nfg"
+    # shellcheck disable=SC2086
+    run ${entries[2]} "$scratch/hooked.nfg" "$scratch/refused.nfg"
+    judge "the hook gamefile-write" "$nothing" "$scratch/lines" 2
+    cp "$scratch/hooked.nfg" "$scratch/out" && : >"$scratch/err"
+    judge "the hook gamefile-write: the file" "$accepted.out" "$nothing" 2
 }
 
 # Counts what another script passes and fails, which its last line says.
