@@ -247,7 +247,7 @@ def comparison(first: bytes, second: bytes, options: argparse.Namespace) -> Tupl
 def run_same(options: argparse.Namespace) -> int:
     def about_one(letter: str, name: str) -> ContextManager[None]:
         """Says which file a failure is about: by its letter, or in words."""
-        return explained(True, (called(name), b"")) if options.explain else about(letter)
+        return explained(True, (name, b"")) if options.explain else about(letter)
 
     with about_one("A", options.a):
         first = opened(options.a)
@@ -257,7 +257,7 @@ def run_same(options: argparse.Namespace) -> int:
         a = read(first)
     with about_one("B", options.b):
         b = read(second)
-    with explained(options.explain, (called(options.a), a), (called(options.b), b)):
+    with explained(options.explain, (options.a, a), (options.b, b)):
         answer, status = comparison(a, b, options)
     write(answer.encode())
     return status

@@ -109,6 +109,7 @@ def test_other_commands_explain():
     judge(["hash", "--explain", *refused, "missing", "mis\x1b[31msing"])
     for words in (["canon"], ["table"], ["hash"], ["same", "/dev/null"]):
         judge([*words, "--explain", "-"], input=GAME[:-3])
+    judge(["same", "--explain", "-", "/dev/null"], input=GAME[:-3])
 
 
 def test_too_many_profiles_in_words():
