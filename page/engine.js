@@ -10,8 +10,8 @@ gamefile.Failure = class Failure extends Error {
     }
 };
 
-// A file is refused: its code, such as "E9", the range of bytes, what is wrong, and, in `explanation`, a hint
-// that is true wherever the code occurs, or null. Of two files, `which` is 0 for the first and 1 for the second.
+// A file is refused: its code, such as "E9", the range of bytes, what is wrong, and, in `hint`, a hint that is
+// true wherever the code occurs, or null. Of two files, `which` is 0 for the first and 1 for the second.
 gamefile.Refusal = class Refusal extends gamefile.Failure {};
 // A tree has no table: `profile` is the first that overflows, from 1, or null if there are too many.
 gamefile.TableError = class TableError extends gamefile.Failure {};

@@ -92,7 +92,7 @@ class Calls {
         const code = this.u32(this.fault), expected = this.u32(this.fault, 1);
         return {
             name: "Refusal", code: `E${code}`, start: this.u64(this.fault, 1), end: this.u64(this.fault, 2), which,
-            message: this.message(code, expected), explanation: this.text(this.exports.page_hint(code, expected)),
+            message: this.message(code, expected), hint: this.text(this.exports.page_hint(code, expected)),
         };
     }
 
