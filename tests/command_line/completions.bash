@@ -1,9 +1,9 @@
 # shellcheck shell=bash disable=SC2034,SC2154
 # Completion in bash and zsh offers what help names.
 
-# The options that help names for a command.
-options_in_help() { # COMMAND
-    launch help "$1" | grep -oE '^ +(-[a-z0-9], )?--[a-z-]+' | grep -oE -- '--[a-z-]+' | sort
+# The options that help names for a command, or before any command.
+options_in_help() { # [COMMAND]
+    launch help "$@" | grep -oE '^ +(-[a-zA-Z0-9], )?--[a-z-]+' | grep -oE -- '--[a-z-]+' | sort
 }
 
 # What bash offers for the last of these words, a line for each.
@@ -21,6 +21,9 @@ check_completions() {
     status=0
     echo "$commands" >"$scratch/expected"
     judge "commands that bash completes" "$scratch/expected" "$nothing" 0
+    options_in_help >"$scratch/expected"
+    offered_by_bash gamefile -- >"$scratch/out"
+    judge "options before a command that bash completes" "$scratch/expected" "$nothing" 0
     for command in $(grep -v '^help$' <<<"$commands"); do
         options_in_help "$command" >"$scratch/expected"
         offered_by_bash gamefile "$command" -- >"$scratch/out"
@@ -36,11 +39,12 @@ check_completions() {
 # The function for zsh names each command and each option of help, and no other option.
 check_zsh_completion() { # COMMANDS
     local command
-    for command in $1; do
-        if [[ $command != help ]]; then
+    {
+        options_in_help
+        for command in $(grep -v '^help$' <<<"$1"); do
             options_in_help "$command"
-        fi
-    done | sort -u >"$scratch/expected"
+        done
+    } | sort -u >"$scratch/expected"
     grep -oE -- '--[a-z][a-z-]*' "$root/completions/_gamefile" | sort -u >"$scratch/out"
     judge "options that zsh completes" "$scratch/expected" "$nothing" 0
     grep -oE "^ +'[a-z]+\[" "$root/completions/_gamefile" | grep -oE '[a-z]+' | sort >"$scratch/out"
