@@ -22,6 +22,19 @@ check_help() { # WORD..
     fi
 }
 
+# The help of a command says how it is used, and is the same whichever words ask for it.
+check_help_of() { # COMMAND
+    run help "$1" <"$nothing"
+    cp "$scratch/out" "$scratch/lines"
+    grep -q "^Usage: gamefile $1 " "$scratch/lines"
+    status=$?
+    judge "help $1: its usage" "$scratch/lines" "$nothing" 0
+    run "$1" --help <"$nothing"
+    judge "$1 --help" "$scratch/lines" "$nothing" 0
+    run "$1" -h <"$nothing"
+    judge "$1 -h" "$scratch/lines" "$nothing" 0
+}
+
 check_words() {
     local words
     run canon <"$accepted.nfg"
@@ -45,6 +58,9 @@ check_words() {
         "help check" "help table" "help same" "help hash" "hash --help" "help duplicates" "same a --help"; do
         # shellcheck disable=SC2086
         check_help $words
+    done
+    for words in canon check table same hash duplicates; do
+        check_help_of "$words"
     done
     for words in --version -V; do
         run $words <"$nothing"
