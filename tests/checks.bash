@@ -19,12 +19,14 @@ try() { # NAME COMMAND..
     fi
 }
 
-# Runs a test of many cases, whose last line ends in 'N passed, M failed'.
+# Runs a test of many cases, whose last line ends in 'N passed, M failed'. It has to pass some, or say what is
+# not run.
 count() { # NAME COMMAND..
     local name=$1
     shift
     "$@" > "$room/log" 2>&1
-    if [[ $? == 0 && $(tail -n 1 "$room/log") =~ ([0-9]+)\ passed,\ 0\ failed$ ]]; then
+    if [[ $? == 0 && $(tail -n 1 "$room/log") =~ ([0-9]+)\ passed,\ 0\ failed$ ]] &&
+        { ((BASH_REMATCH[1] > 0)) || grep -q '^NOT RUN' "$room/log"; }; then
         grep '^NOT RUN' "$room/log"
         echo "$name: ${BASH_REMATCH[1]} passed"
         passed=$((passed + BASH_REMATCH[1]))

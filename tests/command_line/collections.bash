@@ -290,6 +290,11 @@ END
     rm "$scratch/late.efg"
 }
 
+# Drops the counts after the first, which are shown too if the other files take long.
+drop_later_counts() {
+    sed -E -i $'s/\r\e\\[K[2-9] of [0-9]+ files//g' "$scratch/err"
+}
+
 # A terminal is told how many files are done, and keeps the lines of faults alone.
 check_progress() {
     local files=("$scratch/late.efg" "$scratch/refused.nfg" "$scratch/five.efg") erase=$'\r\e[K'
@@ -298,18 +303,21 @@ check_progress() {
         hash_of "$scratch/five.efg" "$scratch/five.efg"
     } >"$scratch/lines"
     run_at_terminal piped hash "${files[@]}"
+    drop_later_counts
     printf '%s1 of 3 files%s%s: E4 at 26..29\n%s' "$erase" "$erase" "$scratch/refused.nfg" "$erase" >"$scratch/expected"
     judge "progress at a terminal" "$scratch/lines" "$scratch/expected" 2
     run_at_terminal piped hash --quiet "${files[@]}"
     echo "$scratch/refused.nfg: E4 at 26..29" >"$scratch/expected"
     judge "progress with --quiet" "$scratch/lines" "$scratch/expected" 2
     run_at_terminal there hash "${files[0]}" "${files[2]}"
+    drop_later_counts
     {
         printf '%s' "$erase" && head -n 1 "$scratch/lines"
         printf '%s1 of 2 files%s' "$erase" "$erase" && tail -n 1 "$scratch/lines" && printf '%s' "$erase"
     } >"$scratch/expected"
     judge "progress at a terminal that has the output" "$nothing" "$scratch/expected" 0
     run_at_terminal piped duplicates "${files[@]}"
+    drop_later_counts
     printf '%s\n' "$scratch/late.efg" "$scratch/five.efg" >"$scratch/lines"
     printf '%s1 of 3 files%s%s: E4 at 26..29\n%s' "$erase" "$erase" "$scratch/refused.nfg" "$erase" >"$scratch/expected"
     judge "progress of duplicates" "$scratch/lines" "$scratch/expected" 2
@@ -447,12 +455,13 @@ hash_by_parallel() { # NAME OPTION..
 
 # A server for ssh at 127.0.0.1, which is called one and two.
 start_server() {
-    local ssh=$scratch/ssh
+    local ssh=$scratch/ssh port
+    port=$(python3 -c 'import socket; s = socket.socket(); s.bind(("127.0.0.1", 0)); print(s.getsockname()[1])')
     mkdir -p "$ssh" /run/sshd
     ssh-keygen -q -t ed25519 -N '' -f "$ssh/host"
     ssh-keygen -q -t ed25519 -N '' -f "$ssh/user"
     cat >"$ssh/server" <<END
-Port 22122
+Port $port
 ListenAddress 127.0.0.1
 HostKey $ssh/host
 AuthorizedKeysFile $ssh/user.pub
@@ -463,7 +472,7 @@ END
     cat >"$ssh/config" <<END
 Host one two
     HostName 127.0.0.1
-    Port 22122
+    Port $port
     IdentityFile $ssh/user
     StrictHostKeyChecking no
     UserKnownHostsFile /dev/null
