@@ -15,6 +15,14 @@ def after(state, number):
     return folded(state, number * 0x1_0000_0001, 4)
 
 
+def after_key(state, key, size):
+    """The state after the key of a set or an outcome, a number of 8 or 4 bytes, whose last two bits do not choose
+    a bucket: first its lowest byte, and then the others."""
+    lowest, others = key % 256 // 4, key // 256
+    word = others if size == 4 else others % 2**32 | others >> 24 << 32
+    return folded(folded(state, lowest * 0x1_0101, 1), word, size - 1)
+
+
 def is_early(state, buckets):
     """Whether a key that leads to this state goes into one of the first of 65,536 buckets."""
     return (state ^ state >> 32) & 0xFFFF < buckets

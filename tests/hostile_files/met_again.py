@@ -12,10 +12,14 @@ SEED = 1
 MET_AGAIN = 40_000
 
 
-def colliding(start):
-    """Numbers that the kit's fast hasher, if it is in this state, puts among the first buckets of a map."""
-    early = (number for number in itertools.count(10**9) if hasher.is_early(hasher.after(start, number), 0x200))
-    return list(itertools.islice(early, MET_AGAIN))
+def colliding(player, size):
+    """Numbers that a map from keys of so many bytes, those of a player if they are sets, would have among its first
+    buckets if its hasher began as the kit's does."""
+
+    def is_early(number):
+        return hasher.is_early(hasher.after_key(hasher.START, player << 32 | number, size), 0x200)
+
+    return list(itertools.islice(filter(is_early, itertools.count(10**9)), MET_AGAIN))
 
 
 def scattered():
@@ -40,7 +44,7 @@ def sets_met_again(numbers):
 
 def colliding_sets():
     """Sets of player 1 whose hashes would be alike."""
-    return sets_met_again(colliding(hasher.after(hasher.START, 1)))
+    return sets_met_again(colliding(1, 8))
 
 
 def scattered_sets():
@@ -66,7 +70,7 @@ def outcomes_met_again(numbers):
 
 def colliding_outcomes():
     """Outcomes whose hashes would be alike."""
-    return outcomes_met_again(colliding(hasher.START))
+    return outcomes_met_again(colliding(0, 4))
 
 
 def scattered_outcomes():

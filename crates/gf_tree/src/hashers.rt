@@ -14,8 +14,8 @@ use std::hash::{BuildHasher, DefaultHasher, FoldHasher, Hash, Hasher};
 /// long to find, whatever their hashes are.
 const FEW_KEYS: usize = 64;
 
-/// Where a hash has the bits that `indexmap` takes for the tag of a key, and not for its place.
-const TAG: u32 = 24;
+/// The first bit of a hash that `indexmap` takes for the tag of a key, and not for its place.
+const TAG: u64 = 1 << 24;
 
 /// Hashes a number so that a map keeps its neighbours beside it: all but the last two bits choose the
 /// place in the map's table, and these two the tag, which tells the keys of one place apart.
@@ -36,9 +36,7 @@ impl Hasher for NumberHasher {
     ghost finish = { number_finish };
 
     fn finish(&self) -> u64 {
-        self.hasher
-            .finish()
-            .wrapping_add((self.last_bits as u64) << TAG)
+        self.hasher.finish() ^ self.last_bits as u64 * TAG
     }
 
     fn write(&mut self, bytes: &[u8]) {

@@ -1,5 +1,5 @@
 -- Hashers of numbers, whose start depends on an input.
-use Rattle.std.specs.Prelude.{◌+◌, ◌*◌, ◌/◌, ◌%◌, ◌^◌, ℕ, List, [], ◌∷◌}
+use Rattle.std.specs.Prelude.{◌*◌, ◌/◌, ◌%◌, ◌^◌, ℕ, List, [], ◌∷◌, bit_xor}
 use Rattle.std.specs.List.{fold}
 use Rattle.std.specs.declared.hash.FoldHasher.{FoldHasher}
 use Rattle.gf_tree.specs.declared.hashers.Hashers.{Hashers}
@@ -23,4 +23,4 @@ number_write h (lowest ∷ others) =
     record { hasher = folding.write (folding.write h.hasher (lowest / 4 ∷ [])) others; last_bits = lowest % 4 }
 
 abbrev pub number_finish : NumberHasher → ℕ
-number_finish h = (folding.finish h.hasher + h.last_bits * 2 ^ 24) % 2 ^ 64
+number_finish h = bit_xor (folding.finish h.hasher) (h.last_bits * 2 ^ 24)
