@@ -8,8 +8,10 @@ use Rattle.gf_tree.specs.inner.Machine.{begun}
 use Rattle.gf_tree.specs.inner.ReaderState.{begun_with}
 
 pub record FoundSet (known : List (Described SetKey InformationSet)) (key : SetKey) (place : ℕ)
-    (set : InformationSet) : Type 0 where
+    : Type 0 where
+  pub set : InformationSet
   pub described : description_at same_set known key ≡ Some set
+  pub stands : option_map (λ s. s.description) (slice_get known place) ≡ Some set
   pub begins : (node : List ℕ) → begun_with known node (place + 1) ≡ begun node key set
   pub within : place < length known
 

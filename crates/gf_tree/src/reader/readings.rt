@@ -2,9 +2,9 @@
 
 ghost use Rattle.std.specs.Prelude.{◌≡◌, IfOk, IfSome};
 ghost use Rattle.gf_fraction.specs.Ratio.{IsFraction};
-ghost use Rattle.gf_fraction.specs.Offered.{number_of, sum_of};
+ghost use Rattle.gf_fraction.specs.Offered.{sum_of};
 ghost use Rattle.gf_token.specs.Offered.{positive};
-ghost use Rattle.gf_tree.specs.inner.Probability.{share_of};
+ghost use Rattle.gf_tree.specs.inner.Probability.{share_by};
 ghost use Rattle.gf_tree.specs.inner.Shares.{shared};
 
 use gf_fraction::{Fraction, NumberFault};
@@ -19,14 +19,6 @@ pub(crate) fn count(index: Option<u32>) -> Option<u32>
         Some(count) if count > 0 => Some(count),
         _ => None,
     }
-}
-
-/// The number that a bare token spells.
-pub(crate) fn number(text: &[u8]) -> Result<Fraction, NumberFault>
-    ensures number { result ≡ number_of text.now }
-    ensures fraction { IfOk result IsFraction }
-{
-    Fraction::read(text)
 }
 
 /// The sum of two fractions, if it fits.
@@ -49,13 +41,17 @@ pub(crate) struct Share {
     pub(crate) sum: Fraction,
 }
 
-/// The probability that a bare token spells, after probabilities of this sum.
-pub(crate) fn next_share(before: Fraction, text: &[u8]) -> Result<Share, Why>
-    requires { IsFraction before }
-    ensures machine { shared result ≡ share_of before text.now }
+/// The probability that a bare token spells, if it is this number, after probabilities of this sum.
+pub(crate) fn next_share(
+    before: Fraction,
+    number: Result<Fraction, NumberFault>,
+) -> Result<Share, Why>
+    requires before { IsFraction before }
+    requires number { IfOk number IsFraction }
+    ensures machine { shared result ≡ share_by before number }
     ensures fraction { IfOk result (λ s. IsFraction s.sum) }
 {
-    let probability = number(text)?;
+    let probability = number?;
     if probability.is_negative() {
         return Err(Why::NegativeProbability);
     }

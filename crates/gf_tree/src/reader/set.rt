@@ -27,31 +27,18 @@ use gf_fraction::Fraction;
 use gf_token::{Fault, Label, TextToken, What, Why};
 use std::alloc::AllocError;
 
-/// A set that is known: its place, its name and its actions.
-#[derive(Drop)]
-struct KnownSet<'s, 'a> {
-    place: u32,
-    name: Label<'a>,
-    actions: &'s [Action<'a>],
-}
-
-/// The set with this key, if it is known.
+/// The place of a set, if it is known.
 #[tactic(auto, using(crate::proofs::lemmas::reader::Steps::sets_known))]
 #[inline(always)]
-fn described<'s, 'a>(sets: &'s Sets<'a>, player: u32, number: u32) -> Option<KnownSet<'s, 'a>>
+fn known_set(sets: &Sets<'_>, player: u32, number: u32) -> Option<u32>
     ensures absent { IfNone result (position (same_set (set_of player number))
         (map (λ s. s.key) sets.now.known) ≡ None) }
     ensures unknown { IfNone result
         (description_at same_set sets.now.known (set_of player number) ≡ None) }
-    ensures known { IfSome result (λ set. FoundSet sets.now.known (set_of player number) set.place
-        (set_with (label_of set.name) (actions_of set.actions.now))) }
+    ensures known { IfSome result (FoundSet sets.now.known (set_of player number)) }
 {
     let place = sets.find(player, number)?;
-    Some(KnownSet {
-        place,
-        name: sets.name(place),
-        actions: sets.actions(place),
-    })
+    Some(place)
 }
 
 /// Whether the actions of a set may end if their probabilities have this sum; a player's actions
@@ -64,6 +51,7 @@ fn adds_up(player: u32, sum: Fraction) -> bool
 
 impl<'a> Reader<'a> {
     /// Reads the probability of an action, and returns the sum through it.
+    #[tactic(auto, using(gf_fraction::proofs::Offered::number_answers))]
     fn probability(&mut self, label: Label<'a>, sum: Fraction) -> Result<Fraction, Fault>
         requires { IsFraction sum }
         ensures machine { (node : List ℕ) (number : ℕ) (name : List ℕ) → MatchResult result
@@ -76,10 +64,10 @@ impl<'a> Reader<'a> {
         ensures fraction { IfOk result IsFraction }
         ensures read { OnOk result (ReadsAction self.old self.new) }
     {
-        let Some(word) = self.tokens.bare() else {
+        let Some((word, number)) = self.tokens.number() else {
             return Err(self.tokens.refusal(Why::Expected(What::Number)));
         };
-        match readings::next_share(sum, word.bytes) {
+        match readings::next_share(sum, number) {
             Ok(share) => match self.sets.push(label, Some(share.probability)) {
                 Ok(()) => Ok(share.sum),
                 Err(_) => Err(Fault::at(word.span, Why::Memory)),
@@ -211,13 +199,12 @@ impl<'a> Reader<'a> {
         ensures read { OnOk result (ReadsSet self.old self.new) }
         ensures place { IfOk result (λ place. place < length self.new.sets.known) }
     {
-        let place = match described(&self.sets, player, number) {
-            Some(set) => {
-                same_set(&mut self.tokens, set.name, set.actions)?;
-                set.place
-            }
-            None => self.new_set(player, number)?,
+        let Some(place) = known_set(&self.sets, player, number) else {
+            let place = self.new_set(player, number)?;
+            return Ok(place);
         };
+        let (name, actions) = (self.sets.name(place), self.sets.actions(place));
+        same_set(&mut self.tokens, name, actions)?;
         Ok(place)
     }
 
@@ -248,8 +235,8 @@ impl<'a> Reader<'a> {
             let place = self.described_set(player, number)?;
             return Ok(place);
         }
-        match described(&self.sets, player, number) {
-            Some(set) => Ok(set.place),
+        match known_set(&self.sets, player, number) {
+            Some(place) => Ok(place),
             None => Err(self.tokens.refusal(Why::NotDescribed)),
         }
     }

@@ -115,24 +115,18 @@ key_at {K} {D} same tells key es place s h is =
     sym ((tells key s.key).0 (rw (get_or_from_slice_get keys place s.key s.key there) at stands))
 
 pub found_set : (known : List (Described SetKey InformationSet)) (key : SetKey) (place : ℕ)
-    (name : List ℕ) (actions : List Action)
-    → position (same_set key) (map (λ s. s.key) known) ≡ Some place
-    → option_map (λ s. s.description.name) (slice_get known place) ≡ Some name
-    → option_map (λ s. s.description.actions) (slice_get known place) ≡ Some actions
-    → FoundSet known key place (set_with name actions)
-found_set known key place name actions at named acts = by (slice_get known place) refl
-  where
-    by : (o : Option (Described SetKey InformationSet)) → slice_get known place ≡ o
-        → FoundSet known key place (set_with name actions)
-    by None is = let none : None ≡ Some name = rw is at named in absurd cc
-    by (Some s) is =
-        let parts = set_in_parts (slice_get known place) name actions named acts in
-        let key_is = key_at same_set same_set_equality key known place s at is in
-        record {
-          described = described_at same_set same_set_equality key known place at ∙ parts;
-          begins = λ node. cc (at_next known place);
-          within = slice_get_within known place s is;
-        }
+    → position (same_set key) (map (λ s. s.key) known) ≡ Some place → FoundSet known key place
+found_set known key place at =
+    let within : place < length known = grind (arith, length-map, position-Some) in
+    let t = something_there known place within in
+    let key_is = key_at same_set same_set_equality key known place t.0 at t.1 in
+    record {
+      set = t.0.description;
+      described = cc (described_at same_set same_set_equality key known place at, t.1);
+      stands = ap (option_map (λ x. x.description)) t.1;
+      begins = λ node. cc (at_next known place, t.1, key_is);
+      within = within;
+    }
 
 -- ---- a set that is kept
 
@@ -193,11 +187,12 @@ taken {t} {u} {l} ahead input = λ i. record { input = sym input i; ahead = ahea
 
 -- after its number its description, if there is one, was read
 pub set_known_again : (c : Content) (node : List ℕ) (key : SetKey) (place : ℕ)
-    (rest behind : Remaining) (set : InformationSet) → FoundSet c.sets key place set
-    → heard (KnownSetName node key set) c rest ≡ heard (OutcomeNumber (begun node key set)) c behind
+    (rest behind : Remaining) (found : FoundSet c.sets key place)
+    → heard (KnownSetName node key found.set) c rest
+    ≡ heard (OutcomeNumber (begun node key found.set)) c behind
     → heard (past_set node key (description_at same_set c.sets key)) c rest
     ≡ heard (OutcomeNumber (begun_with c.sets node (place + 1))) c behind
-set_known_again c node key place rest behind set found goes =
+set_known_again c node key place rest behind found goes =
     cc (found.described, goes, found.begins node)
 
 -- its number is read

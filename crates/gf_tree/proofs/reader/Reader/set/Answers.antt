@@ -5,8 +5,8 @@ use Rattle.gf_tree.proofs.lemmas.stores.PassedBy.{set_passed_by}
 use Rattle.gf_tree.proofs.lemmas.reader.Steps.{set_again, set_known_again, taken}
 use Rattle.gf_tree.proofs.reader.Reader.set.Goals as goal
 
-pub returns-in-Some-described-clause-machine : goal.returns-in-Some-described-clause-machine
-returns-in-Some-described-clause-machine c = λ node.
+pub returns-in-Some-known_set-clause-machine : goal.returns-in-Some-known_set-clause-machine
+returns-in-Some-known_set-clause-machine c = λ node.
     let content = content_of c.args.self.now in
     let key = set_of c.args.player c.in-Some-count.number in
     let tokens = c.index.new.self in
@@ -15,6 +15,6 @@ returns-in-Some-described-clause-machine c = λ node.
     _
     (taken c.in-Some.ensures.next c.in-Some.ensures.input)
     (c.in-Some-count.ensures ∙ ap positive read)
-    (set_known_again content node key c.in-Some-described.set.place tokens tokens _
-    c.in-Some-described.ensures.known (set_passed_by content node key _ tokens.input tokens.ahead
+    (set_known_again content node key c.in-Some-known_set.place tokens tokens
+    c.in-Some-known_set.ensures.known (set_passed_by content node key _ tokens.input tokens.ahead
     (search rules)))
