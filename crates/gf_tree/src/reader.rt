@@ -3,7 +3,8 @@
 //!
 //! A node without descriptions takes one straight path, whose functions are `inline(always)`: wide
 //! values would otherwise pass through memory. Descriptions are read by separate functions that are
-//! `inline(never)`.
+//! `inline(never)`. Their results are taken apart: `return self.described_set(..)` would copy the
+//! bytes of a `Fault` even when there is none.
 
 ghost use Rattle.std.specs.Prelude.{◌≡◌, ◌<◌, ◌^◌, ℕ, List, Ok, length, IfOk, OnOk};
 ghost use Rattle.gf_token.specs.Remaining.{StandsBefore};
@@ -61,7 +62,7 @@ impl<'a> Reader<'a> {
         ensures few { length result.tokens.ahead < 2 ^ 64 }
         ensures untold { (result.told_sets ≡ 0) × (result.told_outcomes ≡ 0) }
     {
-        let empty = Label::new(&[]).unwrap();
+        let empty = Label::of_spelling(b"");
         Reader {
             tokens: Cursor::new(input),
             title: empty,

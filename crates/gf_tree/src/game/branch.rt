@@ -66,6 +66,8 @@ impl<'g, 'a> Branch<'g, 'a> {
     }
 
     /// The branch of a child, by its position from 1. `None` if there is no such child.
+    ///
+    /// Takes time in proportion to `i`; `child_branches` gives all of them in one walk.
     pub fn child(&self, i: usize) -> Option<Branch<'g, 'a>>
         ensures tree { option_map tree_of result ≡ at_position (child_trees (tree_of self.now)) i }
         ensures game { IfSome result (λ b. game_of b ≡ game_of self.now) }

@@ -98,7 +98,8 @@ pub(crate) fn skip(nodes: &[Stored<'_>], from: usize, count: usize) -> usize
     at
 }
 
-/// Fills in the sizes of subtrees, from the last node to the first.
+/// Fills in the sizes of subtrees, from the last node to the first. Each node is passed over once,
+/// as a child of its parent.
 #[tactic(auto, using(crate::proofs::lemmas::stores::KeptSizes::sizes_filled))]
 fn fill_sizes(nodes: &mut [Stored<'_>], sets: &Sets<'_>)
     requires placed { (outcomes : ℕ)

@@ -43,6 +43,7 @@ pub(crate) struct Outcomes<'a> {
     alloc: Global,
     entries: IndexMap<u32, StoredOutcome<'a>, Hashers>,
     payoffs: Vec<Fraction>,
+    /// Where the payoffs of the description being read begin.
     from: usize,
 }
 

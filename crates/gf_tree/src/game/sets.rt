@@ -129,7 +129,7 @@ fn reach(players: &mut Vec<OwnSets>, alloc: Global, player: u32) -> Result<(), A
 }
 
 /// Adds a set to those of a player, and returns how many they then have.
-fn add_set(
+fn add_own(
     players: &mut Vec<OwnSets>,
     alloc: Global,
     player: u32,
@@ -150,13 +150,11 @@ fn add_set(
 
 /// The place of a player's last set, if they have any.
 fn last_place(players: &[OwnSets], player: u32) -> Option<u32> {
-    match sets_of(players, player) {
-        Some(own) => Some(own.last),
-        None => None,
-    }
+    Some(sets_of(players, player)?.last)
 }
 
-/// Where a set may be: it is its player's only one, or all sets are numbered in one sequence.
+/// A guess at a set's place: that of its player's last set if it is the only one, otherwise the
+/// place before its number, as if all sets were numbered in order of first use.
 #[inline(always)]
 fn likely_place(players: &[OwnSets], key: SetKey) -> usize {
     match sets_of(players, key.player) {
@@ -165,8 +163,8 @@ fn likely_place(players: &[OwnSets], key: SetKey) -> usize {
     }
 }
 
-/// Where the actions from here on begin, and how many there are. If they are the same as those of
-/// the set at a place, where those begin instead.
+/// Where the actions from `from` on are kept, and how many there are: with those of the set at
+/// `place` if they are the same, otherwise where they stand.
 #[tactic(auto, using(crate::proofs::lemmas::stores::SetsStored::within))]
 fn stretch_like(
     entries: &Entries<'_>,
@@ -204,6 +202,7 @@ pub(crate) struct Sets<'a> {
     greatest: u32,
     players: Vec<OwnSets>,
     actions: Vec<Action<'a>>,
+    /// Where the actions of the description being read begin.
     from: usize,
 }
 
@@ -383,7 +382,7 @@ impl<'a> Sets<'a> {
         make_room(&mut self.entries, self.alloc, seed)?;
         let like = last_place(&self.players, player);
         let (start, count) = stretch_like(&self.entries, &self.actions, self.from, like)?;
-        let among = add_set(&mut self.players, self.alloc, player, number, place)?;
+        let among = add_own(&mut self.players, self.alloc, player, number, place)?;
         let set = StoredSet {
             among,
             count,
@@ -392,6 +391,7 @@ impl<'a> Sets<'a> {
         };
         push(&mut self.entries, SetKey { player, number }, set);
         self.greatest = self.greatest.max(number);
+        // If an earlier set has the same actions, the new copies are dropped.
         self.from = self.from.max(set.end());
         self.actions.truncate(self.from);
         Ok(place)

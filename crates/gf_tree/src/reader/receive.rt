@@ -25,12 +25,12 @@ pub trait Receive<'a> {
     /// was before it was told anything.
     ghost holds: { Self → Self → Heading → List Told → Type 0 };
 
-    /// Takes the heading.
+    /// Takes the heading. An `Err` ends the reading, which returns E19 at the last token told.
     fn heading(&mut self, heading: ToldHeading<'_, 'a>) -> Result<(), AllocError>
         requires { untold self.old }
         ensures { OnOk result (holds self.old self.new (heading_of heading.entry) []) };
 
-    /// Takes the next node.
+    /// Takes the next node. An `Err` ends the reading, as that of `heading` does.
     fn node(&mut self, node: NumberedNode<'_, 'a>) -> Result<(), AllocError>
         ensures { OnOk result ((untold : Self) (heading : Heading) (told : List Told)
             → holds untold self.old heading told

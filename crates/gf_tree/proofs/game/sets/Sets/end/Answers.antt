@@ -26,7 +26,7 @@ invariant_of-self-2 c =
           c.args.self.now c.self.view_is new c.max-self-inside-2.result
           (subst Holds c.deref-2.ensures.value c.in_ok-start.ensures) (search rules)
           c.push.new.map.entries c.truncate.new.self.items (search rules) (search rules)
-          c.add_set.new.players.items c.add_set.ensures.others c.in_ok-among.ensures.own
+          c.add_own.new.players.items c.add_own.ensures.others c.in_ok-among.ensures.own
           c.in_ok-among.ensures.count (omega (arith, c.in_ok-place.ensures.ok, c.len.ensures.len)),
       below_then s.entries.entries s.greatest new c.push.new.map.entries c.max-self-inside.result
           c.self.invariant.1 (search rules) (search rules),
