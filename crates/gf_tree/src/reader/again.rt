@@ -1,6 +1,6 @@
 //! Descriptions that are repeated: they are compared with the first ones while they are read.
 
-ghost use Rattle.std.specs.Prelude.{◌≤◌, ◌∷◌, [], false, ℕ, List, length, OnOk};
+ghost use Rattle.std.specs.Prelude.{◌≤◌, ◌∷◌, [], false, true, ℕ, List, length, OnOk};
 ghost use Rattle.gf_fraction.specs.Ratio.{Ratio};
 ghost use Rattle.gf_token.specs.Label.{label_of};
 ghost use Rattle.gf_tree.specs.Actions.{action_of, actions_of};
@@ -18,18 +18,21 @@ use gf_token::{Cursor, Fault, Label, What, Why};
 
 /// Reads a number that has to have this value.
 #[tactic(auto, using(gf_fraction::proofs::Offered::number_answers))]
-fn same_probability(tokens: &mut Cursor<'_>, probability: Fraction) -> Result<(), Fault>
-    ensures machine { (c : Content) (b : Begun) (others : List spec_action)
-        → Goes (heard (KnownProbability b probability others) c tokens.old) result
+fn number_again(tokens: &mut Cursor<'_>, number: Fraction) -> Result<(), Fault>
+    ensures probability { (c : Content) (b : Begun) (others : List spec_action)
+        → Goes (heard (KnownProbability b number others) c tokens.old) result
         (heard (KnownAction b others) c tokens.new) }
+    ensures payoff { (c : Content) (others : List Ratio)
+        → Goes (heard (KnownPayoff false (number ∷ others)) c tokens.old) result
+        (heard (KnownPayoff true others) c tokens.new) }
     ensures shorter { OnOk result (length tokens.new.ahead ≤ length tokens.old.ahead) }
 {
-    let Some((word, number)) = tokens.number() else {
+    let Some((word, read)) = tokens.number() else {
         return Err(tokens.refusal(Why::Expected(What::Number)));
     };
-    match number {
+    match read {
         Ok(found) => {
-            if found == probability {
+            if found == number {
                 Ok(())
             } else {
                 Err(Fault::at(word.span, Why::Mismatch))
@@ -40,7 +43,7 @@ fn same_probability(tokens: &mut Cursor<'_>, probability: Fraction) -> Result<()
 }
 
 /// Reads an action of a set that is known.
-fn same_action<'a>(tokens: &mut Cursor<'a>, action: &Action<'a>) -> Result<(), Fault>
+fn action_again<'a>(tokens: &mut Cursor<'a>, action: &Action<'a>) -> Result<(), Fault>
     ensures machine { (c : Content) (b : Begun) (others : List spec_action)
         → Goes (heard (KnownAction b (action_of action.now ∷ others)) c tokens.old) result
         (heard (KnownAction b others) c tokens.new) }
@@ -48,7 +51,7 @@ fn same_action<'a>(tokens: &mut Cursor<'a>, action: &Action<'a>) -> Result<(), F
 {
     if let Some(_) = tokens.text_of(action.label) {
         match action.probability {
-            Some(probability) => same_probability(tokens, probability),
+            Some(probability) => number_again(tokens, probability),
             None => Ok(()),
         }
     } else if let Some(other) = tokens.text() {
@@ -61,7 +64,7 @@ fn same_action<'a>(tokens: &mut Cursor<'a>, action: &Action<'a>) -> Result<(), F
 }
 
 /// Reads the end of the actions of a set that is known.
-fn same_actions_end(tokens: &mut Cursor<'_>) -> Result<(), Fault>
+fn actions_end_again(tokens: &mut Cursor<'_>) -> Result<(), Fault>
     ensures machine { (c : Content) (b : Begun)
         → Goes (heard (KnownAction b []) c tokens.old) result
         (heard (OutcomeNumber b) c tokens.new) }
@@ -78,7 +81,7 @@ fn same_actions_end(tokens: &mut Cursor<'_>) -> Result<(), Fault>
 
 /// Reads the actions of a set that is known, after its name.
 #[inline(never)]
-fn same_actions<'a>(tokens: &mut Cursor<'a>, actions: &[Action<'a>]) -> Result<(), Fault>
+fn actions_again<'a>(tokens: &mut Cursor<'a>, actions: &[Action<'a>]) -> Result<(), Fault>
     ensures machine { (c : Content) (b : Begun)
         → Goes (heard (KnownSetOpening b (actions_of actions.now)) c tokens.old) result
         (heard (OutcomeNumber b) c tokens.new) }
@@ -88,14 +91,14 @@ fn same_actions<'a>(tokens: &mut Cursor<'a>, actions: &[Action<'a>]) -> Result<(
         return Err(tokens.refusal(Why::Expected(What::Opening)));
     };
     for action in actions {
-        same_action(tokens, action)?;
+        action_again(tokens, action)?;
     }
-    same_actions_end(tokens)
+    actions_end_again(tokens)
 }
 
 /// Reads the description of a set that is known, if there is one.
 #[inline(always)]
-pub(crate) fn same_set<'a>(
+pub(crate) fn set_again<'a>(
     tokens: &mut Cursor<'a>,
     name: Label<'a>,
     actions: &[Action<'a>],
@@ -108,7 +111,7 @@ pub(crate) fn same_set<'a>(
     ensures shorter { OnOk result (length tokens.new.ahead ≤ length tokens.old.ahead) }
 {
     if let Some(_) = tokens.text_of(name) {
-        same_actions(tokens, actions)
+        actions_again(tokens, actions)
     } else if let Some(other) = tokens.text() {
         Err(Fault::at(other.span, Why::Mismatch))
     } else {
@@ -117,31 +120,19 @@ pub(crate) fn same_set<'a>(
 }
 
 /// Reads a payoff of an outcome that is known, and one comma if there is one.
-#[tactic(auto, using(gf_fraction::proofs::Offered::number_answers))]
-fn same_payoff(tokens: &mut Cursor<'_>, payoff: Fraction) -> Result<(), Fault>
+fn payoff_again(tokens: &mut Cursor<'_>, payoff: Fraction) -> Result<(), Fault>
     ensures machine { (c : Content) (others : List Ratio)
         → Goes (heard (KnownPayoff false (payoff ∷ others)) c tokens.old) result
         (heard (KnownPayoff false others) c tokens.new) }
     ensures shorter { OnOk result (length tokens.new.ahead ≤ length tokens.old.ahead) }
 {
-    let Some((word, number)) = tokens.number() else {
-        return Err(tokens.refusal(Why::Expected(What::Number)));
-    };
-    match number {
-        Ok(found) => {
-            if found == payoff {
-                tokens.comma();
-                Ok(())
-            } else {
-                Err(Fault::at(word.span, Why::Mismatch))
-            }
-        }
-        Err(cause) => Err(Fault::at(word.span, Why::from(cause))),
-    }
+    number_again(tokens, payoff)?;
+    tokens.comma();
+    Ok(())
 }
 
 /// Reads the payoffs of an outcome that is known, after its name.
-fn same_payoffs(tokens: &mut Cursor<'_>, payoffs: &[Fraction]) -> Result<(), Fault>
+fn payoffs_again(tokens: &mut Cursor<'_>, payoffs: &[Fraction]) -> Result<(), Fault>
     ensures machine { (c : Content)
         → Goes (heard (KnownOutcomeOpening payoffs.now) c tokens.old) result
         (heard NodeDue c tokens.new) }
@@ -151,7 +142,7 @@ fn same_payoffs(tokens: &mut Cursor<'_>, payoffs: &[Fraction]) -> Result<(), Fau
         return Err(tokens.refusal(Why::Expected(What::Opening)));
     };
     for payoff in payoffs {
-        same_payoff(tokens, *payoff)?;
+        payoff_again(tokens, *payoff)?;
     }
     let Some(_) = tokens.closing() else {
         return Err(tokens.refusal(Why::Expected(What::Closing)));
@@ -160,7 +151,7 @@ fn same_payoffs(tokens: &mut Cursor<'_>, payoffs: &[Fraction]) -> Result<(), Fau
 }
 
 /// Reads the description of an outcome that is known, if there is one.
-pub(crate) fn same_outcome<'a>(
+pub(crate) fn outcome_again<'a>(
     tokens: &mut Cursor<'a>,
     name: Label<'a>,
     payoffs: &[Fraction],
@@ -171,7 +162,7 @@ pub(crate) fn same_outcome<'a>(
     ensures shorter { OnOk result (length tokens.new.ahead ≤ length tokens.old.ahead) }
 {
     if let Some(_) = tokens.text_of(name) {
-        same_payoffs(tokens, payoffs)
+        payoffs_again(tokens, payoffs)
     } else if let Some(other) = tokens.text() {
         Err(Fault::at(other.span, Why::Mismatch))
     } else {

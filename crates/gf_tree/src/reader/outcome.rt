@@ -19,7 +19,7 @@ ghost use Rattle.gf_tree.specs.inner.ReaderState.{ReadsTokens, heard, heard_from
 
 use super::Reader;
 use crate::game::outcomes::Outcomes;
-use crate::reader::again::same_outcome;
+use crate::reader::again::outcome_again;
 use crate::reader::receive::Receive;
 use gf_token::{Fault, Label, Span, What, Why};
 use std::alloc::AllocError;
@@ -33,8 +33,7 @@ fn known_outcome(outcomes: &Outcomes<'_>, number: u32) -> Option<u32>
     ensures unknown { IfNone result (description_at nat_eq outcomes.now.known number ≡ None) }
     ensures known { IfSome result (λ place. FoundOutcome outcomes.now.known number place) }
 {
-    let place = outcomes.find(number)?;
-    Some(place)
+    outcomes.find(number)
 }
 
 impl<'a> Reader<'a> {
@@ -103,9 +102,7 @@ impl<'a> Reader<'a> {
             return Err(Fault::at(brace, Why::Memory));
         };
         prove!((place as usize) < self.outcomes.len());
-        let Ok(()) = self.tell(node, set, place + 1, to) else {
-            return Err(Fault::at(brace, Why::Memory));
-        };
+        self.tell(node, set, place + 1, brace, to)?;
         Ok(())
     }
 
@@ -151,7 +148,7 @@ impl<'a> Reader<'a> {
         ensures read { OnOk result (ReadsTokens self.old self.new) }
     {
         let (name, payoffs) = (self.outcomes.name(place), self.outcomes.payoffs(place));
-        same_outcome(&mut self.tokens, name, payoffs)
+        outcome_again(&mut self.tokens, name, payoffs)
     }
 
     /// Reads the description of an outcome, after the outcome's number at this place: the first
@@ -179,9 +176,7 @@ impl<'a> Reader<'a> {
             return Ok(());
         };
         prove!((place as usize) < self.outcomes.len());
-        let Ok(()) = self.tell(node, set, place + 1, to) else {
-            return Err(Fault::at(stands, Why::Memory));
-        };
+        self.tell(node, set, place + 1, stands, to)?;
         self.outcome_again(place)
     }
 
@@ -207,9 +202,7 @@ impl<'a> Reader<'a> {
             return Err(Fault::at(word.span, Why::BadIndex));
         };
         if number == 0 {
-            let Ok(()) = self.tell(node, set, 0, to) else {
-                return Err(Fault::at(word.span, Why::Memory));
-            };
+            self.tell(node, set, 0, word.span, to)?;
             return Ok(());
         }
         if self.tokens.is_quoted() {
@@ -220,9 +213,7 @@ impl<'a> Reader<'a> {
             return Err(self.tokens.refusal(Why::NotDescribed));
         };
         prove!((place as usize) < self.outcomes.len());
-        let Ok(()) = self.tell(node, set, place + 1, to) else {
-            return Err(Fault::at(word.span, Why::Memory));
-        };
+        self.tell(node, set, place + 1, word.span, to)?;
         Ok(())
     }
 }

@@ -21,7 +21,7 @@ ghost use Rattle.gf_tree.specs.inner.ReaderState.{Grows, ReadsAction, ReadsSet, 
 use super::Reader;
 use crate::game::action::Action;
 use crate::game::sets::Sets;
-use crate::reader::again::same_set;
+use crate::reader::again::set_again;
 use crate::reader::readings;
 use gf_fraction::Fraction;
 use gf_token::{Fault, Label, TextToken, What, Why};
@@ -37,8 +37,7 @@ fn known_set(sets: &Sets<'_>, player: u32, number: u32) -> Option<u32>
         (description_at same_set sets.now.known (set_of player number) ≡ None) }
     ensures known { IfSome result (FoundSet sets.now.known (set_of player number)) }
 {
-    let place = sets.find(player, number)?;
-    Some(place)
+    sets.find(player, number)
 }
 
 /// Whether the actions of a set may end if their probabilities have this sum; a player's actions
@@ -204,7 +203,7 @@ impl<'a> Reader<'a> {
             return Ok(place);
         };
         let (name, actions) = (self.sets.name(place), self.sets.actions(place));
-        same_set(&mut self.tokens, name, actions)?;
+        set_again(&mut self.tokens, name, actions)?;
         Ok(place)
     }
 
@@ -230,8 +229,6 @@ impl<'a> Reader<'a> {
             return Err(Fault::at(word.span, Why::BadIndex));
         };
         if self.tokens.is_quoted() {
-            // If the result were passed on as a whole, a refusal would be copied even if there is
-            // none.
             let place = self.described_set(player, number)?;
             return Ok(place);
         }

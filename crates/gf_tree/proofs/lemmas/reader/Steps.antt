@@ -1,6 +1,6 @@
 -- What the reader keeps still stands for the same when more is known.
 use Rattle.gf_tree.proofs.Common
-use Common.{slice_get_within, with_pending_set, actions_counted, InformationSet}
+use Common.{with_pending_set, actions_counted, InformationSet}
 use Common.{description_at, OutcomeNumber, KnownOutcomes, entries_with, new_set_ends}
 use Common.{KnownSetName, outcome_with, StandsBefore, with_outcome, Decides-eqb, at_position, false}
 use Common.{with_action, option_map, length-map, actions_of, set_number, begun_with, ℕ}

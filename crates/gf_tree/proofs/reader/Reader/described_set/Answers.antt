@@ -14,5 +14,5 @@ returns-clause-machine c = λ node.
           c.actions-actions.ensures,
     ) in
     set_known_again (content_of c.args.self.now) node (set_of c.args.player c.args.number)
-    c.in-Some.place c.args.self.now.tokens c.same_set.new.tokens found
-    (rw is (c.in_ok-same_set.ensures.machine (content_of c.args.self.now) node _))
+    c.in-Some.place c.args.self.now.tokens c.set_again.new.tokens found
+    (rw is (c.in_ok-set_again.ensures.machine (content_of c.args.self.now) node _))

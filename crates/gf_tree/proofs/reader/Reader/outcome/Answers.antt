@@ -2,19 +2,20 @@ use Rattle.gf_tree.proofs.Common.{◌≡◌, ap, arith, false, Some, None, refl,
 use Rattle.gf_tree.proofs.Common.{is_quoted, starts, Reader, with_node, KnownOutcomeName, NodeDue}
 use Rattle.gf_tree.proofs.Common.{begun_with, content_of}
 use Rattle.gf_token.proofs.Offered.{index_read}
-use Rattle.gf_tree.proofs.lemmas.reader.Steps.{lacks_memory}
+use Rattle.gf_tree.proofs.lemmas.reader.Steps.{fails_back, lacks_memory}
 use Rattle.gf_tree.proofs.lemmas.stores.PassedBy.{outcome_passed_by}
 use Rattle.gf_tree.specs.inner.ReaderState.{with_children}
 use Rattle.gf_tree.proofs.lemmas.reader.Telling.{grows_none, reads_none, shorter_by, tells}
 use Rattle.gf_tree.proofs.reader.Reader.outcome.Goals as goal
 
-pub returns-in_default-tell : goal.returns-in_default-tell
-returns-in_default-tell g c =
+pub returns-in_err-tell : goal.returns-in_err-tell
+returns-in_err-tell g c =
     let read = index_read c.in-Some.word.bytes.now c.in-Some.index c.in-Some.ensures.index in
-    lacks_memory c.in-Some.ensures.place c.at-in_default-tell.ensures NodeDue
+    fails_back {r = c.from_residual.result} _ (search rules)
+    (lacks_memory c.in-Some.ensures.place c.in_err-tell.ensures NodeDue
     (with_node (content_of c.args.self.now)
     (begun_with c.args.self.now.sets.known (label_of c.args.node) c.args.set) None)
-    (search rules)
+    (search rules))
 
 pub returns-then-number-eq0 : goal.returns-then-number-eq0
 returns-then-number-eq0 g c =
@@ -22,23 +23,24 @@ returns-then-number-eq0 g c =
     tells NodeDue {old = c.args.self.now} {r = record c.args.self.now { tokens = c.index.new.self }}
     refl refl (grows_none c.args.self.now.sets.known) (grows_none c.args.self.now.outcomes.known)
     (record { set = c.requires.set; outcome = omega arith })
-    c.in-Ok.ensures (search rules) reads_none refl refl (shorter_by c.in-Some.ensures.next)
+    c.in_ok-tell.ensures (search rules) reads_none refl refl (shorter_by c.in-Some.ensures.next)
 
-pub returns-in_default-tell-2 : goal.returns-in_default-tell-2
-returns-in_default-tell-2 g c =
+pub returns-in_err-tell-2 : goal.returns-in_err-tell-2
+returns-in_err-tell-2 g c =
     let read = index_read c.in-Some.word.bytes.now c.in-Some.index c.in-Some.ensures.index in
-    lacks_memory c.in-Some.ensures.place c.at-in_default-tell-2.ensures
+    fails_back {r = c.from_residual-in_err-tell-2.result} _ (search rules)
+    (lacks_memory c.in-Some.ensures.place c.in_err-tell-2.ensures
     (KnownOutcomeName c.in-Some-known_outcome.ensures.known.outcome)
     (with_node (content_of c.args.self.now)
     (begun_with c.args.self.now.sets.known (label_of c.args.node) c.args.set)
     (Some c.in-Some-index.number))
-    (search rules)
+    (search rules))
 
 pub returns : goal.returns
 returns g c =
     let read = index_read c.in-Some.word.bytes.now c.in-Some.index c.in-Some.ensures.index in
     let known = c.in-Some-known_outcome.ensures.known in
-    let told = c.in-Ok-tell.ensures in
+    let told = c.in_ok-tell-2.ensures in
     let now = c.tell-2.new.self in
     let same : now.tokens ≡ c.index.new.self = ap (λ (r : Reader). r.tokens) told.kept in
     let none : starts is_quoted now.tokens.ahead ≡ false =

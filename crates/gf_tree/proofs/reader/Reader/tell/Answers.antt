@@ -6,7 +6,7 @@ returns g c = record {
   goes = told_goes c.args.self.now c.max-self.result c.max-self-2.result
       (record { name = label_of c.args.name; set = c.args.set; outcome = c.args.outcome });
   kept = refl;
-  told = c.in_ok-node.ensures;
+  told = c.in-Ok.ensures;
   told_sets = search rules;
   told_outcomes = search rules;
 }

@@ -1,6 +1,6 @@
 use Rattle.gf_tree.proofs.Common.{◌≡◌, ◌≤◌, length, drop, false, Content, heard, KnownOutcomeOpening}
 use Rattle.gf_tree.proofs.Common.{KnownPayoff}
-use Rattle.gf_tree.proofs.reader.again.same_payoffs.Given as goal
+use Rattle.gf_tree.proofs.reader.again.payoffs_again.Given as goal
 
 abbrev pub invariant-loop-payoff : goal.invariant-loop-payoff
 invariant-loop-payoff l = record {

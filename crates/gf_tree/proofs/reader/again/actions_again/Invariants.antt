@@ -1,6 +1,6 @@
 use Rattle.gf_tree.proofs.Common.{◌≡◌, ◌≤◌, length, drop, actions_of, heard, Begun, Content}
 use Rattle.gf_tree.proofs.Common.{KnownSetOpening, KnownAction}
-use Rattle.gf_tree.proofs.reader.again.same_actions.Given as goal
+use Rattle.gf_tree.proofs.reader.again.actions_again.Given as goal
 
 abbrev pub invariant-loop-action : goal.invariant-loop-action
 invariant-loop-action l = record {
