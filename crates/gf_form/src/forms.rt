@@ -19,7 +19,9 @@ pub enum Strategies {
     Reduced,
 }
 
-/// The form of a game by these strategies, as `table` and `table_reduced` make it.
+/// The form of a game by these strategies: what [`table`](crate::table) or
+/// [`table_reduced`](crate::table_reduced) returns. These say what the caller has to ensure, and
+/// when each error comes.
 // No edit: it passes on `table`.
 pub fn form_by(alloc: Global, game: &Game<'_>, strategies: Strategies) -> Result<Table, FormFault>
     requires { HasFewPlayers game.now }

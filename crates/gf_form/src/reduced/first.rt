@@ -165,6 +165,7 @@ fn own_visits(
 {
     let mut own = Vec::new(alloc);
     for visit in visits {
+        // There are at most 20 digits: 2^20 profiles are the limit.
         for position in 0..digits.len() {
             if digits[position].place == visit.set as usize {
                 own.push(Visit {

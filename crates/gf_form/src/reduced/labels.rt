@@ -189,7 +189,7 @@ impl Relevance {
         self.push_at(player, *digit, faster, &own, strategies, count)
     }
 
-    /// The same for a slowest digit and faster ones.
+    /// Marks the sets that are met, one choice at the slowest digit after another.
     #[cycle(below)]
     fn push_at(
         &mut self,

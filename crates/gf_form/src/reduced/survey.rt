@@ -63,7 +63,7 @@ fn all_visits(
     Ok(visits)
 }
 
-/// The same, each once.
+/// The visits of a player to their sets, each once, in order of demands.
 pub(crate) fn visits_in(
     alloc: Global,
     game: &Game<'_>,

@@ -58,6 +58,7 @@ fn put_digit(
     let Some(more) = values.checked_mul(u64::from(actions) + 1) else {
         return Ok(None);
     };
+    // There are at most 20 digits: 2^20 profiles are the limit.
     digits.insert(
         0,
         Digit {

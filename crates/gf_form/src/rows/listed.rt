@@ -20,32 +20,29 @@ use crate::rows::digits::Digits;
 use crate::rows::paths::Path;
 use crate::rows::share::{Share, payoff_at, share_of};
 use crate::rows::shares::paid_sums;
-use crate::rows::sums::{combined, multiple};
-use crate::rows::terms::{Head, Scaled, Terms};
+use crate::rows::sums::{combined, least_common_multiple};
+use crate::rows::terms::{Head, LARGEST, Scaled, Terms};
 use crate::values::payoffs::Payoffs;
 use gf_fraction::Fraction;
 use gf_tree::Game;
 use std::alloc::{AllocError, Global};
 
-/// The greatest denominator, and the greatest sum of sizes.
-const LARGEST: u128 = i128::MAX as u128;
-
-/// The least denominator that serves what a path adds to each of these payoffs; `None` if it is too
-/// large.
+/// A denominator that serves what a path adds to each of these payoffs: that of the path times the
+/// least one that serves the payoffs; `None` if it is too large.
 fn denominator(path: Path, row: &[Fraction]) -> Option<u128> {
     let mut least = 1;
     for payoff in row {
-        least = multiple(least, payoff.den())?;
+        least = least_common_multiple(least, payoff.den())?;
     }
     path.den.checked_mul(least)
 }
 
-/// A denominator that serves all of these nodes: this one, if it does; `None` if it is too large.
+/// The least multiple of `start` and of these nodes' denominators; `None` if it is too large.
 fn common_denominator(nodes: &[Path], payoffs: &Payoffs<'_>, start: u128) -> Option<u128> {
     let mut common = start;
     for node in nodes {
         let own = denominator(*node, payoffs.at(node.outcome))?;
-        common = multiple(common, own)?;
+        common = least_common_multiple(common, own)?;
     }
     Some(common)
 }

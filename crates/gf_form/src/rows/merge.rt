@@ -11,7 +11,7 @@ use std::alloc::AllocError;
 
 impl Terms {
     /// Replaces these by what the terms of a list become if this action is chosen at the slowest
-    /// digit, whose step is given. Those that count there are given.
+    /// digit. `step` is that digit's step, and `chosen` says which terms count there.
     #[inline(always)]
     pub(crate) fn merge(
         &mut self,

@@ -8,12 +8,9 @@ ghost use Rattle.gf_form.specs.inner.rows.Pairs.{HasPairRow, IsOnly, IsPair};
 
 use crate::rows::chosen::Chosen;
 use crate::rows::sums::{Scale, scale_of, sum_at};
-use crate::rows::terms::{Head, Terms};
+use crate::rows::terms::{Head, LARGEST, Terms};
 use gf_fraction::{Fraction, SharedDenominator};
 use std::alloc::AllocError;
-
-/// The greatest denominator, and the greatest size.
-const LARGEST: u128 = i128::MAX as u128;
 
 /// A term, or none.
 #[derive(Clone, Copy)]
@@ -33,7 +30,7 @@ pub(crate) struct Pair<'t> {
     pub second: &'t [i128],
 }
 
-/// Makes it this denominator. Quick if it is that already.
+/// Makes `den` the shared denominator, unless it is that already.
 #[inline(always)]
 fn put(shared: &mut SharedDenominator, den: u128)
     requires above { 0 < den }

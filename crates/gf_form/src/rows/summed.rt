@@ -20,8 +20,8 @@ const MANY: usize = 4;
 
 impl Terms {
     /// Whether the terms that demand nothing at the slowest digit are many, both for the choices at
-    /// the faster ones and beside the terms that demand an action. The choices at all digits are
-    /// counted.
+    /// the faster ones and beside the terms that demand an action. `choices` is how many choices
+    /// there are at all digits.
     #[inline(always)]
     pub(crate) fn have_many_free(&self, slowest: Digit, choices: u32) -> bool {
         let all = self.demands.len();
@@ -30,10 +30,11 @@ impl Terms {
         if all.saturating_mul(actions) <= many {
             return false;
         }
-        // With few actions, little is saved at this digit alone.
-        let most = all.saturating_sub(all / (4 / actions + 1));
-        let least = most.max(many / actions);
-        match self.demands.get(least) {
+        // With few actions little is saved, so more terms have to be free: more than two thirds of
+        // them for two actions, half for three or four, any number for five or more.
+        let by_share = all.saturating_sub(all / (4 / actions + 1));
+        let by_choices = many / actions;
+        match self.demands.get(by_share.max(by_choices)) {
             Some(demands) => *demands < slowest.step,
             None => false,
         }
@@ -58,7 +59,7 @@ impl Terms {
     }
 
     /// These terms, of which those that demand nothing at the slowest digit are added up for each
-    /// choice at the faster ones. The choices at all digits are counted.
+    /// choice at the faster ones. `choices` is how many choices there are at all digits.
     #[cycle(sums)]
     pub(crate) fn summed(
         &self,
@@ -87,35 +88,35 @@ impl Terms {
         Ok(list)
     }
 
-    /// Appends what the terms of a list come to at each choice for these digits, as a term that
-    /// demands the choice, raised by a number. The choices are counted.
+    /// Appends, for each choice at these digits, what the terms of a list come to there, as a term
+    /// with the demands of the choice plus `raised`. `choices` is how many choices there are.
     #[cycle(sums)]
     fn push_sums(
         &mut self,
         from: &Terms,
         digits: &[Digit],
         choices: u32,
-        least: u64,
+        raised: u64,
         spare: &mut SpareTerms,
     ) -> Result<(), AllocError>
-        requires may { MayAddUp digits.now least from.now self.old }
-        ensures added { OnOk result (AreAddedUp digits.now least from.now self.old self.new) }
+        requires may { MayAddUp digits.now raised from.now self.old }
+        ensures added { OnOk result (AreAddedUp digits.now raised from.now self.old self.new) }
         ensures alike { AreAlike self.new self.old }
     {
         let Some((slowest, faster)) = digits.split_first() else {
-            return self.push_all(from, least);
+            return self.push_all(from, raised);
         };
         if from.demand_nothing() {
-            return self.push_all(from, least);
+            return self.push_all(from, raised);
         }
         if from.have_many_free(*slowest, choices) {
             let list = from.summed(*slowest, faster, choices, spare)?;
-            return self.push_each(&list, *slowest, faster, choices, least, spare);
+            return self.push_each(&list, *slowest, faster, choices, raised, spare);
         }
-        self.push_each(from, *slowest, faster, choices, least, spare)
+        self.push_each(from, *slowest, faster, choices, raised, spare)
     }
 
-    /// The same for a slowest digit and faster ones.
+    /// Appends these sums, one choice at the slowest digit after another.
     #[cycle(sums)]
     fn push_each(
         &mut self,
@@ -123,12 +124,12 @@ impl Terms {
         slowest: Digit,
         faster: &[Digit],
         choices: u32,
-        least: u64,
+        raised: u64,
         spare: &mut SpareTerms,
     ) -> Result<(), AllocError>
-        requires may { MayAddUp (slowest ∷ faster.now) least from.now self.old }
+        requires may { MayAddUp (slowest ∷ faster.now) raised from.now self.old }
         ensures added { OnOk result
-            (AreAddedUp (slowest ∷ faster.now) least from.now self.old self.new) }
+            (AreAddedUp (slowest ∷ faster.now) raised from.now self.old self.new) }
         ensures alike { AreAlike self.new self.old }
     {
         let mut level = spare.list(from.players);
@@ -137,7 +138,7 @@ impl Terms {
             let action = u64::from(before) + 1;
             chosen = chosen.next(&from.demands, slowest.step, action);
             level.merge(from, chosen, slowest.step, action)?;
-            let first = least + action * slowest.step;
+            let first = raised + action * slowest.step;
             self.push_sums(&level, faster, choices / slowest.actions, first, spare)?;
         }
         spare.give_back(level)?;

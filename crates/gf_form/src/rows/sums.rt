@@ -33,7 +33,7 @@ const UNKNOWN: Scale = Scale {
 /// The least denominator that serves both; `None` if it is too large. The denominator of `a / b` in
 /// lowest terms is the factor by which `a` has to be multiplied for it.
 #[inline]
-pub(crate) fn multiple(a: u128, b: u128) -> Option<u128> {
+pub(crate) fn least_common_multiple(a: u128, b: u128) -> Option<u128> {
     if b == 1 || a == b || a.checked_rem(b)? == 0 {
         return Some(a);
     }
@@ -65,7 +65,7 @@ pub(crate) fn factor(den: u128, from: u128) -> Option<u128>
 fn scale_of_different(a: Head, b: Head) -> Option<Scale>
     ensures { IfSome result (IsScale a b) }
 {
-    let den = multiple(a.den, b.den)?;
+    let den = least_common_multiple(a.den, b.den)?;
     let first = factor(den, a.den)?;
     let second = factor(den, b.den)?;
     let own = a.size.checked_mul(first)?;
@@ -129,7 +129,8 @@ fn weighted(a: i128, by_a: u128, b: i128, by_b: u128) -> Option<i128>
     Some(sum)
 }
 
-/// The same. Quick if the factors are 1.
+/// The sum of two numbers, each times its factor, quick if both factors are 1; `None` if it does
+/// not fit.
 #[inline(always)]
 fn summed(a: i128, by_a: u128, b: i128, by_b: u128) -> Option<i128>
     ensures { IfSome result (λ sum. sum ≡ a *ℤ pos by_a +ℤ b *ℤ pos by_b) }

@@ -9,6 +9,9 @@ ghost use Rattle.gf_form.specs.inner.rows.TermLists.{part, scaled_at, term_at};
 
 use std::alloc::{AllocError, Global};
 
+/// The greatest denominator, and the greatest sum of sizes.
+pub(crate) const LARGEST: u128 = i128::MAX as u128;
+
 /// What a term demands, and what its numbers are over.
 #[derive(Clone, Copy)]
 pub(crate) struct Head {

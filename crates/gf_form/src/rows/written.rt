@@ -256,8 +256,8 @@ impl<'g, 'a> Written<'g, 'a> {
         self.push_each(asked, terms, *slowest, faster, run)
     }
 
-    /// The same for a slowest digit and faster ones. The terms that demand nothing at the slowest
-    /// one are first added up.
+    /// Appends the rows of these profiles, one choice at the slowest digit after another. The terms
+    /// that demand nothing there are first added up.
     #[cycle(rows)]
     #[inline(never)]
     fn push_summed(
@@ -277,7 +277,7 @@ impl<'g, 'a> Written<'g, 'a> {
         self.push_each(asked, &summed, slowest, faster, run)
     }
 
-    /// The same for a slowest digit and faster ones.
+    /// Appends the rows of these profiles, one choice at the slowest digit after another.
     #[cycle(rows)]
     #[inline(always)]
     fn push_each(

@@ -85,6 +85,7 @@ pub fn expected(
     ensures overflow { IsErrOf result EvalFault.Overflow → ¬ (HasValuesWith game.now
         (choices_by game.now (map (λ own. own.items) choices.now))) }
 {
+    // For its clauses: the game is one, and can be spelled.
     let _players = game.players();
     let payoffs = Payoffs::new(alloc, game)?;
     let nodes = Nodes::new(alloc, game)?;

@@ -33,7 +33,7 @@ summed-returns-clause-sums t c =
 
 pub push_sums-returns-in_default-clause-added : goal.push_sums-returns-in_default-clause-added
 push_sums-returns-in_default-clause-added t c =
-    none_demanded c.push_all.result c.args.digits.now c.args.least c.args.from.now
+    none_demanded c.push_all.result c.args.digits.now c.args.raised c.args.from.now
     c.args.self.now c.push_all.new.self
     (last_met c.args.digits.now (all_terms c.args.from.now) c.in_default.ensures.cases)
     c.push_all.ensures.pushed c.push_all.ensures.order c.push_all.ensures.ends
@@ -43,7 +43,7 @@ pub push_sums-returns-then-demand_nothing-clause-added
 push_sums-returns-then-demand_nothing-clause-added t c =
     let alone = c.demand_nothing.ensures c.if-demand_nothing.true in
     let pushed = c.push_all-then-demand_nothing.ensures in
-    none_demanded c.push_all-then-demand_nothing.result c.args.digits.now c.args.least
+    none_demanded c.push_all-then-demand_nothing.result c.args.digits.now c.args.raised
     c.args.from.now c.args.self.now c.push_all-then-demand_nothing.new.self
     (alone_met (actions_at c.args.digits.now) c.args.from.now alone.0 alone.1)
     pushed.pushed pushed.order pushed.ends
@@ -52,7 +52,7 @@ pub push_sums-returns-then-have_many_free-clause-added
     : goal.push_sums-returns-then-have_many_free-clause-added
 push_sums-returns-then-have_many_free-clause-added t c =
     rw c.in-Some.ensures.cases.0 (on_ok_weaker c.push_each.result
-    (added_through (c.in-Some.slowest.now ∷ c.in-Some.faster.now) c.args.least c.args.from.now
+    (added_through (c.in-Some.slowest.now ∷ c.in-Some.faster.now) c.args.raised c.args.from.now
     c.in_ok-list.list c.args.self.now c.push_each.new.self c.in_ok-list.ensures.sums)
     c.push_each.ensures.added)
 
@@ -67,7 +67,7 @@ push_each-loop-before-preserved t c =
     let added = rw c.from-action.ensures at more.added in
     record {
       summing = more_summing (actions_at c.args.faster.now) (all_terms c.args.from.now)
-          c.args.least c.loop-before.before (all_terms c.args.self.now)
+          c.args.raised c.loop-before.before (all_terms c.args.self.now)
           (all_terms c.loop-before.self) (all_terms c.push_sums.new.self) inv.summing
           (all_terms c.merge.new.self)
           (rw (c.from-action.ensures, step) at c.in_ok-merge.ensures.merged)
@@ -86,7 +86,7 @@ push_each-returns-clause-added t c =
     let done : c.loop-before.before ≡ c.args.slowest.actions =
     omega (arith, c.loop-before-test.false, c.loop-before.auto.before-end) in record {
       sums = last_summing c.args.slowest.actions (actions_at c.args.faster.now)
-          (all_terms c.args.from.now) c.args.least (all_terms c.args.self.now)
+          (all_terms c.args.from.now) c.args.raised (all_terms c.args.self.now)
           (all_terms c.loop-before.self) (rw done at inv.summing);
       order = inv.order;
       ends = rw (done, step) at inv.ends;

@@ -14,11 +14,11 @@ decreases-push_each l = 3 * length l.faster.now + 1
 
 abbrev pub invariant-push_each-loop-before : goal.invariant-push_each-loop-before
 invariant-push_each-loop-before l = record {
-  summing : Summing (actions_at l.faster) (all_terms l.from) l.least l.before
+  summing : Summing (actions_at l.faster) (all_terms l.from) l.raised l.before
       (all_terms l.fn.self) (all_terms l.self);
   alike : AreAlike l.self l.fn.self;
   order : AreInOrder l.self;
-  ends : EndsBelow l.self.demands.items (l.least + (l.before + 1) * l.slowest.step);
+  ends : EndsBelow l.self.demands.items (l.raised + (l.before + 1) * l.slowest.step);
   level : l.level.players ≡ l.from.players;
   within : AreWithin l.from.demands.items l.chosen;
 }
