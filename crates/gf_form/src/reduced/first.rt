@@ -16,6 +16,7 @@ ghost use Rattle.gf_form.specs.Strategies.{action_counts, players_of, strategies
 use crate::reduced::digits::{OwnDigit, own_digits, own_steps};
 use crate::reduced::labels::labels_of;
 use crate::reduced::level::Level;
+use crate::reduced::spare::SpareLevels;
 use crate::reduced::survey::visits_in;
 use crate::reduced::visits::Visit;
 use crate::strategies::counts::Counts;
@@ -43,13 +44,11 @@ pub(crate) struct Player<'q, 'a> {
 /// below which nothing is found.
 #[derive(Drop)]
 struct Search {
-    alloc: Global,
     /// Whether the set of each digit can still be met, or need not be.
     met: Vec<bool>,
     /// The numbers of the first strategies, from 0.
     numbers: Vec<u32>,
-    /// Levels whose room is used again.
-    spare: Vec<Level>,
+    spare: SpareLevels,
 }
 
 /// Whether all flags are set.
@@ -134,10 +133,7 @@ impl Search {
         };
         let each = count / digit.actions;
         let tried = self.actions_tried(depth, *digit);
-        let mut left = match self.spare.pop() {
-            Some(level) => level,
-            None => Level::none(self.alloc),
-        };
+        let mut left = self.spare.level();
         for before in 0..tried {
             left.choose_at(level, digit.step, u64::from(before + 1), depth)?;
             self.push_below(
@@ -149,7 +145,7 @@ impl Search {
                 each,
             )?;
         }
-        self.spare.push(left)?;
+        self.spare.give_back(left)?;
         Ok(())
     }
 }
@@ -194,10 +190,9 @@ fn first_numbers(
     let own = own_visits(alloc, visits, &player.digits)?;
     let level = Level::of_visits(alloc, &own, player.digits.len())?;
     let mut search = Search {
-        alloc,
         met: Vec::new(alloc),
         numbers: Vec::new(alloc),
-        spare: Vec::new(alloc),
+        spare: SpareLevels::new(alloc),
     };
     search.push_below(player, &player.digits, &level, 0, 0, whole)?;
     Ok(search.numbers)

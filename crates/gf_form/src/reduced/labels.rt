@@ -15,6 +15,7 @@ ghost use Rattle.gf_form.specs.declared.reduced.labels.Found.{Found};
 use crate::reduced::digits::OwnDigit;
 use crate::reduced::first::Player;
 use crate::reduced::level::Level;
+use crate::reduced::spare::SpareLevels;
 use crate::reduced::visits::Visit;
 use crate::strategies::label_text::write_label;
 use crate::strategies::numbered::{room_for_choices, write_strategy};
@@ -41,8 +42,7 @@ pub(crate) struct Relevance {
     pub flags: Vec<bool>,
     /// How many sets there are.
     pub sets: usize,
-    /// Levels whose room is used again.
-    spare: Vec<Level>,
+    spare: SpareLevels,
 }
 
 /// How many of these strategies, from the first one on, make this choice, from 0, at the slowest
@@ -95,7 +95,7 @@ impl Relevance {
             alloc,
             flags,
             sets,
-            spare: Vec::new(alloc),
+            spare: SpareLevels::new(alloc),
         })
     }
 
@@ -160,7 +160,7 @@ impl Relevance {
     /// Marks the sets that are met under these strategies, which made the choices so far. These
     /// digits are left, with `count` choices together.
     #[cycle(below)]
-    fn push_below(
+    fn mark_below(
         &mut self,
         player: &Player<'_, '_>,
         digits: &[OwnDigit],
@@ -179,19 +179,19 @@ impl Relevance {
         };
         let free = level.count_free(digit.step);
         if !self.is_apart(level, free, *digit, strategies.len()) {
-            return self.push_at(player, *digit, faster, level, strategies, count);
+            return self.mark_at(player, *digit, faster, level, strategies, count);
         }
         self.mark_each(player, &level.known, strategies);
         let (free, own) = level.visits.split_at(free);
         let free = Level::of_visits(self.alloc, free, self.sets)?;
-        self.push_at(player, *digit, faster, &free, strategies, count)?;
+        self.mark_at(player, *digit, faster, &free, strategies, count)?;
         let own = Level::of_visits(self.alloc, own, self.sets)?;
-        self.push_at(player, *digit, faster, &own, strategies, count)
+        self.mark_at(player, *digit, faster, &own, strategies, count)
     }
 
     /// Marks the sets that are met, one choice at the slowest digit after another.
     #[cycle(below)]
-    fn push_at(
+    fn mark_at(
         &mut self,
         player: &Player<'_, '_>,
         digit: OwnDigit,
@@ -212,24 +212,21 @@ impl Relevance {
         let each = count / digit.actions;
         if last.demands < digit.step {
             if !is_next(faster, last.demands) {
-                return self.push_below(player, faster, level, strategies, each);
+                return self.mark_below(player, faster, level, strategies, each);
             }
             let ordered = by_choices(self.alloc, strategies, each)?;
-            return self.push_below(player, faster, level, &ordered, each);
+            return self.mark_below(player, faster, level, &ordered, each);
         }
-        let mut left = match self.spare.pop() {
-            Some(level) => level,
-            None => Level::none(self.alloc),
-        };
+        let mut left = self.spare.level();
         let mut rest = strategies;
         while !rest.is_empty() {
             let before = rest[0].number % count / each;
             let (own, others) = rest.split_at(alike(rest, count, each, before));
             left.choose(level, digit.step, u64::from(before) + 1)?;
-            self.push_below(player, faster, &left, own, each)?;
+            self.mark_below(player, faster, &left, own, each)?;
             rest = others;
         }
-        self.spare.push(left)?;
+        self.spare.give_back(left)?;
         Ok(())
     }
 }
@@ -268,7 +265,7 @@ pub(crate) fn labels_of(
     let level = Level::of_visits(alloc, visits, sets)?;
     let strategies = listed(alloc, numbers)?;
     let mut relevance = Relevance::new(alloc, numbers.len(), sets)?;
-    relevance.push_below(player, &player.digits, &level, &strategies, player.whole)?;
+    relevance.mark_below(player, &player.digits, &level, &strategies, player.whole)?;
     write_labels(alloc, player, numbers, &relevance)
 }
 

@@ -11,7 +11,8 @@ ghost use Rattle.gf_form.specs.inner.reduced.Visits.{HoldTheSame, order_of};
 pub(crate) struct Visit {
     /// The choices that it demands of the player, by the digits of their sets.
     pub demands: u64,
-    /// The place of the set among theirs, from 0.
+    /// The place of the set, from 0: among the player's, or, in the search, among those with a
+    /// digit.
     pub set: u32,
 }
 

@@ -14,12 +14,12 @@ told c =
     c.in_ok-level.ensures.level) _ c.requires.firsts _ c.in_ok-strategies.ensures.counted
     c.in_ok-strategies.ensures.each
 
-pub push_below-requires-clause-turn : goal.push_below-requires-clause-turn
-push_below-requires-clause-turn c =
+pub mark_below-requires-clause-turn : goal.mark_below-requires-clause-turn
+mark_below-requires-clause-turn c =
     rw c.deref.ensures.value (all_in_turn c.requires.player (omega arith))
 
-pub push_below-requires-clause-found : goal.push_below-requires-clause-found
-push_below-requires-clause-found c =
+pub mark_below-requires-clause-found : goal.mark_below-requires-clause-found
+mark_below-requires-clause-found c =
     rw c.deref-2.ensures.value (found_told _ (told c) (c.in_ok-relevance.ensures.room
     ∙ ap (λ n. length c.args.numbers.now * n) (sym c.in_ok-relevance.ensures.sets)))
 
@@ -32,4 +32,4 @@ write_labels-requires-clause-rows c =
     ∙ ap (λ n. length c.args.numbers.now * n) (sym c.in_ok-relevance.ensures.sets))
     c.in_ok-relevance.ensures.none c.in_ok-strategies.ensures.counted
     c.in_ok-strategies.ensures.each
-    (rw (c.deref.ensures.value, c.deref-2.ensures.value) at c.in_ok-push_below.ensures.marked)
+    (rw (c.deref.ensures.value, c.deref-2.ensures.value) at c.in_ok-mark_below.ensures.marked)

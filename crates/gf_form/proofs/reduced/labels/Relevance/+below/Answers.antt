@@ -6,14 +6,14 @@ use Rattle.gf_form.proofs.lemmas.reduced.MarkedSets.{part_found, last_marked, st
 use Rattle.gf_form.proofs.lemmas.reduced.Searches.{action_fits, count_some, each_some, turn_next}
 use Rattle.gf_form.proofs.reduced.labels.Relevance.+below.Goals as goal
 
-pub push_below-returns-in_default : goal.push_below-returns-in_default
-push_below-returns-in_default t c =
+pub mark_below-returns-in_default : goal.mark_below-returns-in_default
+mark_below-returns-in_default t c =
     rw (nil_from_length _ c.in_default.ensures.cases) (record {
       marked = on_ok_weaker _ (last_marked c.requires.found c.args.level.now) c.mark_all.ensures;
     })
 
-pub push_below-push_at-requires-2 : goal.push_below-push_at-requires-2
-push_below-push_at-requires-2 t c = (
+pub mark_below-mark_at-requires-2 : goal.mark_below-mark_at-requires-2
+mark_below-mark_at-requires-2 t c = (
   omega (arith, c.decreases, ap length c.in-Some.ensures.cases.0),
   (
     rw c.in-Some.ensures.cases.0 at c.requires.turn,
@@ -21,21 +21,21 @@ push_below-push_at-requires-2 t c = (
   ),
 )
 
-pub push_below-push_at-requires-3 : goal.push_below-push_at-requires-3
-push_below-push_at-requires-3 t c = (
+pub mark_below-mark_at-requires-3 : goal.mark_below-mark_at-requires-3
+mark_below-mark_at-requires-3 t c = (
   omega (arith, c.decreases, ap length c.in-Some.ensures.cases.0),
   (
     rw c.in-Some.ensures.cases.0 at c.requires.turn,
     (
       c.in_ok-own.ensures.level,
-      still_found c.in_ok-push_at.ensures.marked _
+      still_found c.in_ok-mark_at.ensures.marked _
           (still_found c.mark_each.ensures _ c.requires.found),
     ),
   ),
 )
 
-pub push_below-returns : goal.push_below-returns
-push_below-returns t c =
+pub mark_below-returns : goal.mark_below-returns
+mark_below-returns t c =
     let visits = c.deref-2.ensures.value in
     rw c.in-Some.ensures.cases.0 (record {
       marked = on_ok_weaker _ (apart_marked c.requires.found
@@ -44,23 +44,23 @@ push_below-returns t c =
           (rw (c.split_at.ensures.front, visits) at c.in_ok-free.ensures.visits)
           (rw (c.split_at.ensures.back, visits) at c.in_ok-own.ensures.visits)
           c.in_ok-free.ensures.unknown c.in_ok-own.ensures.unknown
-          (rw c.deref.ensures.value at c.mark_each.ensures) c.in_ok-push_at.ensures.marked)
-          c.push_at-3.ensures.marked;
+          (rw c.deref.ensures.value at c.mark_each.ensures) c.in_ok-mark_at.ensures.marked)
+          c.mark_at-3.ensures.marked;
     })
 
-pub push_at-push_below-requires : goal.push_at-push_below-requires
-push_at-push_below-requires t c =
+pub mark_at-mark_below-requires : goal.mark_at-mark_below-requires
+mark_at-mark_below-requires t c =
     (omega (arith, c.decreases), (turn_next c.requires.turn, (c.requires.level, c.requires.found)))
 
-pub push_at-returns-then-not-is_next : goal.push_at-returns-then-not-is_next
-push_at-returns-then-not-is_next t c = record {
+pub mark_at-returns-then-not-is_next : goal.mark_at-returns-then-not-is_next
+mark_at-returns-then-not-is_next t c = record {
   marked = on_ok_weaker _ (free_marked c.requires.found c.args.level.now c.requires.turn c.in-Some.last.now
       c.requires.level.ordered (grind (arith, c.in-Some.ensures.value, c.deref.ensures.value))
-      c.if-last-digit.true) c.push_below.ensures.marked;
+      c.if-last-digit.true) c.mark_below.ensures.marked;
 }
 
-pub push_at-push_below-requires-then-last-digit : goal.push_at-push_below-requires-then-last-digit
-push_at-push_below-requires-then-last-digit t c = (
+pub mark_at-mark_below-requires-then-last-digit : goal.mark_at-mark_below-requires-then-last-digit
+mark_at-mark_below-requires-then-last-digit t c = (
   omega (arith, c.decreases),
   (
     turn_next c.requires.turn,
@@ -72,32 +72,32 @@ push_at-push_below-requires-then-last-digit t c = (
   ),
 )
 
-pub push_at-returns-then-last-digit : goal.push_at-returns-then-last-digit
-push_at-returns-then-last-digit t c = record {
+pub mark_at-returns-then-last-digit : goal.mark_at-returns-then-last-digit
+mark_at-returns-then-last-digit t c = record {
   marked = on_ok_weaker _ (λ marked. free_marked c.requires.found c.args.level.now c.requires.turn
       c.in-Some.last.now c.requires.level.ordered
       (grind (arith, c.in-Some.ensures.value, c.deref.ensures.value)) c.if-last-digit.true
       (marked_permuted _ _ _ _ c.in_ok-ordered.ensures marked))
-      (rw c.deref-then-last-digit.ensures.value at c.push_below-then-last-digit.ensures.marked);
+      (rw c.deref-then-last-digit.ensures.value at c.mark_below-then-last-digit.ensures.marked);
 }
 
-pub push_at-nonzero_rem-before : goal.push_at-nonzero_rem-before
-push_at-nonzero_rem-before t c = count_some c.requires.turn
+pub mark_at-nonzero_rem-before : goal.mark_at-nonzero_rem-before
+mark_at-nonzero_rem-before t c = count_some c.requires.turn
 
-pub push_at-nonzero_div-before : goal.push_at-nonzero_div-before
-push_at-nonzero_div-before t c = each_some c.requires.turn
+pub mark_at-nonzero_div-before : goal.mark_at-nonzero_div-before
+mark_at-nonzero_div-before t c = each_some c.requires.turn
 
-pub push_at-alike-requires-clause-count : goal.push_at-alike-requires-clause-count
-push_at-alike-requires-clause-count t c = count_some c.requires.turn
+pub mark_at-alike-requires-clause-count : goal.mark_at-alike-requires-clause-count
+mark_at-alike-requires-clause-count t c = count_some c.requires.turn
 
-pub push_at-alike-requires-clause-each : goal.push_at-alike-requires-clause-each
-push_at-alike-requires-clause-each t c = each_some c.requires.turn
+pub mark_at-alike-requires-clause-each : goal.mark_at-alike-requires-clause-each
+mark_at-alike-requires-clause-each t c = each_some c.requires.turn
 
-pub push_at-choose-requires-clause-fits : goal.push_at-choose-requires-clause-fits
-push_at-choose-requires-clause-fits t c = action_fits c.requires.turn _ _ c.from.ensures
+pub mark_at-choose-requires-clause-fits : goal.mark_at-choose-requires-clause-fits
+mark_at-choose-requires-clause-fits t c = action_fits c.requires.turn _ _ c.from.ensures
 
-pub push_at-push_below-requires-in-loop-rest : goal.push_at-push_below-requires-in-loop-rest
-push_at-push_below-requires-in-loop-rest t c =
+pub mark_at-mark_below-requires-in-loop-rest : goal.mark_at-mark_below-requires-in-loop-rest
+mark_at-mark_below-requires-in-loop-rest t c =
     let so_far = c.loop-rest.invariant in (
       omega (arith, c.decreases),
       (
@@ -111,8 +111,8 @@ push_at-push_below-requires-in-loop-rest t c =
       ),
     )
 
-pub push_at-loop-rest-preserved : goal.push_at-loop-rest-preserved
-push_at-loop-rest-preserved t c =
+pub mark_at-loop-rest-preserved : goal.mark_at-loop-rest-preserved
+mark_at-loop-rest-preserved t c =
     let so_far = c.loop-rest.invariant in
     let found = still_found so_far.2 _ (part_found _ so_far.0 _ _ _ so_far.1 c.split_at.ensures.front
     c.requires.found) in (
@@ -121,5 +121,5 @@ push_at-loop-rest-preserved t c =
       both_marked _ _ _ _ _ so_far.2 (chosen_marked found c.args.level.now c.requires.turn _ c.choose.new.self
           (ap (λ b. b + 1) c.from.ensures) c.in_ok-choose.ensures.chosen
           (so_far.2.sets ∙ sym c.requires.level.counted)
-          (rw c.split_at.ensures.front c.alike.ensures.same) c.in_ok-push_below.ensures.marked),
+          (rw c.split_at.ensures.front c.alike.ensures.same) c.in_ok-mark_below.ensures.marked),
     )
