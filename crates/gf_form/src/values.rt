@@ -6,5 +6,6 @@ pub(crate) mod expectation;
 pub(crate) mod nodes;
 pub(crate) mod payoffs;
 pub(crate) mod positions;
+pub(crate) mod rows;
 pub(crate) mod spare;
 pub(crate) mod walk;

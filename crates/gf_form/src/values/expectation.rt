@@ -10,10 +10,10 @@ ghost use Rattle.gf_form.specs.StrategicForm.{ArePayoffs};
 ghost use Rattle.gf_form.specs.Strategies.{AreStrategies, choices_by};
 
 use crate::fault::EvalFault;
-use crate::rows::write_out;
 use crate::values::choices::Choices;
 use crate::values::nodes::Nodes;
 use crate::values::payoffs::Payoffs;
+use crate::values::rows::write_out;
 use crate::values::spare::SpareRows;
 use crate::values::walk::Walk;
 use gf_fraction::Fraction;

@@ -17,11 +17,11 @@ ghost use Rattle.gf_form.specs.inner.values.ValueLeft.{node_there, open_size, op
 ghost use Rattle.gf_form.specs.inner.values.ValueLeft.{tree_value, with_own};
 
 use crate::fault::EvalFault;
-use crate::rows::{pay, weigh};
 use crate::values::choices::Choices;
 use crate::values::nodes::Nodes;
 use crate::values::payoffs::Payoffs;
 use crate::values::positions::at;
+use crate::values::rows::{pay, weigh};
 use crate::values::spare::SpareRows;
 use gf_fraction::Fraction;
 use gf_tree::{Branch, Game};

@@ -1,7 +1,7 @@
 use Rattle.gf_form.proofs.Common.{times_of, plus_of, length, arith, Some, ◌≡◌}
 use Rattle.gf_form.proofs.lemmas.values.ValuesComputed.{all_added, one_added, place_is}
 use Rattle.gf_form.proofs.lemmas.values.ValuesComputed.{zeros_weighed}
-use Rattle.gf_form.proofs.rows.weigh.Goals as goal
+use Rattle.gf_form.proofs.values.rows.weigh.Goals as goal
 
 pub loop-i-preserved : goal.loop-i-preserved
 loop-i-preserved c =

@@ -1,6 +1,6 @@
 use Rattle.gf_form.proofs.Common.{◌≡◌, ◌≤◌, ◌-◌, ℕ, length, AllByRecursion, IsFraction, zero_ratio}
 use Rattle.gf_form.proofs.Common.{at_place}
-use Rattle.gf_form.proofs.rows.write_out.Given as goal
+use Rattle.gf_form.proofs.values.rows.write_out.Given as goal
 
 abbrev pub invariant-loop-row : goal.invariant-loop-row
 invariant-loop-row l = (length l.row.items ≤ l.players)

@@ -1,6 +1,6 @@
 use Rattle.gf_form.proofs.Common.{arith}
 use Rattle.gf_form.proofs.lemmas.values.ValuesComputed.{weighed_steps}
-use Rattle.gf_form.proofs.rows.weighed.Goals as goal
+use Rattle.gf_form.proofs.values.rows.weighed.Goals as goal
 
 pub returns-then-num-eq0-clause-is : goal.returns-then-num-eq0-clause-is
 returns-then-num-eq0-clause-is c = grind (arith, weighed_steps)

@@ -1,7 +1,7 @@
 use Rattle.gf_form.proofs.Common.{zero_ratio, plus_of, length, arith, Some, ◌≡◌}
 use Rattle.gf_form.proofs.lemmas.values.ValuesComputed.{all_added, one_added, place_is}
 use Rattle.gf_form.proofs.lemmas.values.ValuesComputed.{zero_fraction, plus_zero}
-use Rattle.gf_form.proofs.rows.pay.Goals as goal
+use Rattle.gf_form.proofs.values.rows.pay.Goals as goal
 
 pub loop-i-preserved : goal.loop-i-preserved
 loop-i-preserved c =
