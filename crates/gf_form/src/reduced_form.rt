@@ -96,9 +96,6 @@ pub fn table_reduced(alloc: Global, game: &Game<'_>) -> Result<Table, FormFault>
         return Err(FormFault::TooManyProfiles);
     };
     let (firsts, labels) = all_reduced(alloc, game, &counts)?;
-    let rows = match reduced_rows(alloc, game, &counts, &firsts) {
-        Ok(rows) => rows,
-        Err(fault) => return Err(fault),
-    };
+    let rows = reduced_rows(alloc, game, &counts, &firsts)?;
     Ok(form_with(alloc, game, labels, rows)?)
 }

@@ -87,9 +87,6 @@ pub fn table(alloc: Global, game: &Game<'_>) -> Result<Table, FormFault>
     let Some(counts) = Counts::new(alloc, game)? else {
         return Err(FormFault::TooManyProfiles);
     };
-    let rows = match full_rows(alloc, game, &counts) {
-        Ok(rows) => rows,
-        Err(fault) => return Err(fault),
-    };
+    let rows = full_rows(alloc, game, &counts)?;
     Ok(form_with(alloc, game, &counts, rows)?)
 }

@@ -51,10 +51,7 @@ pub(crate) fn expected_with<'g, 'a>(
         nodes,
         choices,
     };
-    let mut row = match walk.value(alloc, spare) {
-        Ok(row) => row,
-        Err(fault) => return Err(fault),
-    };
+    let mut row = walk.value(alloc, spare)?;
     write_out(&mut row, players)?;
     Ok(row)
 }

@@ -105,10 +105,8 @@ impl<'g, 'a> Walk<'_, 'g, 'a> {
             (λ k. with_own self.now k node (Some (at_place below.items k))) }
     {
         let branch = self.branch(node);
-        match pay(self.payoffs.at(branch.outcome_position()), &mut below) {
-            Ok(()) => Ok(Next::Value(below)),
-            Err(fault) => Err(fault),
-        }
+        pay(self.payoffs.at(branch.outcome_position()), &mut below)?;
+        Ok(Next::Value(below))
     }
 
     /// Goes on at a node of chance: into the next child, or with its value after the last one.
@@ -217,9 +215,7 @@ impl<'g, 'a> Walk<'_, 'g, 'a> {
                 mut sum,
             } => {
                 let chance = chance_of(&self.branch(node), given);
-                if let Err(fault) = weigh(&mut sum, chance, &value) {
-                    return Err(fault);
-                }
+                weigh(&mut sum, chance, &value)?;
                 spare.give_back(value)?;
                 self.draw(node, given, sum)
             }
