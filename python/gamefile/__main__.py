@@ -186,7 +186,7 @@ def files_of(name: str) -> Iterator[str]:
     except OSError:
         files = [name]
     if not files:
-        say(f"{name}: no game files")
+        say(f"{shown(name)}: no game files")
     yield from files
 
 
@@ -225,7 +225,7 @@ def run_check(options: argparse.Namespace) -> int:
     files = options.files or ["-"]
     if len(files) > 1 or os.path.isdir(files[0]):
         return run_each(
-            files, lambda name: f"{name}: {answered(name, name, options.explain, check)}\n"
+            files, lambda name: f"{shown(name)}: {answered(name, name, options.explain, check)}\n"
         )
     write(f"{answered(files[0], called(files[0]), options.explain, check)}\n".encode())
     return 0

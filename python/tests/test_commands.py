@@ -167,9 +167,13 @@ def test_check_of_several_files():
         bad.write_bytes(b"x")
         expected = f"{good}: table\n".encode(), f"{bad}: E3 at 0..1\n".encode(), 2
         assert judge(["check", good, bad]) == judge(["check", name]) == expected
-        Path(name, "empty").mkdir()
+        odd = "\x1b[31m\n\u0085\u202e"
+        empty = Path(name, f"empty{odd}")
+        empty.mkdir()
         for command in ("check", "hash"):
-            judge([command, Path(name, "empty"), good, Path(name, "mis\x1b[31msing\u0085\u202e")])
+            judge([command, empty, good, Path(name, f"missing{odd}")])
+        game_at(name, f"a{odd}.nfg")
+        judge(["check", name])
 
 
 def game_at(folder, *names):
@@ -199,7 +203,7 @@ def test_names_that_are_not_utf_8():
         game_at(folder, "a.nfg", os.fsdecode(b"\xff.nfg"), os.fsdecode(b"\xff.txt"))
         output, errors, status = ran([PROGRAM], ["check", "."], cwd=folder)
         assert (output, errors.count(b": E20\n"), status) == (b"./a.nfg: table\n", 2, 4)
-        assert ran(PACKAGE, ["check", "."], cwd=folder) == (output + b"./\xff.nfg: table\n", b"", 0)
+        assert ran(PACKAGE, ["check", "."], cwd=folder) == (output + "./\ufffd.nfg: table\n".encode(), b"", 0)
 
 
 def test_names_are_escaped_as_sha256sum_does():

@@ -211,6 +211,10 @@ check_several() {
     run check "$scratch/one"
     echo "$scratch/one/a.efg: tree" >"$scratch/lines"
     judge "check of a folder" "$scratch/lines" "$nothing" 0
+    cp "$five" "$scratch/one/"$'b.efg: table\nc\e[31m\u202e.efg'
+    run check "$scratch/one"
+    echo "$scratch/one/b.efg: table?c?[31m?.efg: tree" >>"$scratch/lines"
+    judge "check of a name that a terminal obeys" "$scratch/lines" "$nothing" 0
     launch check "$five" "$table" >/dev/full 2>"$scratch/err"
     : >"$scratch/out"
     judge_refusal "check of several: standard output full" "E21" 4
@@ -227,10 +231,12 @@ check_several_explained() {
         run "$command" --explain "$refused" "$missing"
         judge "$command --explain of two files" "$nothing" "$scratch/expected" 4
     done
-    launch hash --explain "$five" >/dev/full 2>"$scratch/err"
-    : >"$scratch/out"
-    judge_refusal "hash --explain: standard output full" \
-        "E21: cannot write the output: No space left on device (os error 28)" 4
+    for command in hash duplicates; do
+        launch "$command" --explain "$five" "$scratch/copy.efg" >/dev/full 2>"$scratch/err"
+        : >"$scratch/out"
+        judge_refusal "$command --explain: standard output full" \
+            "E21: cannot write the output: No space left on device (os error 28)" 4
+    done
 }
 
 # `-` is standard input, and `./-` a file.

@@ -10,6 +10,7 @@ use Rattle.gf_canon.specs.NamesAside.{IsTextBy}
 use Rattle.gf_canon.specs.declared.kind.FileKind.{FileKind}
 use Rattle.gf_token.specs.declared.names.Names.{Names}
 use Rattle.gf_words.specs.declared.job.LineEnd.{LineEnd}
+use Rattle.gf_run.specs.Reports.{after_name}
 use Rattle.gf_run.specs.declared.collections.line.FileLine.{FileLine}
 
 -- ---- a name
@@ -53,11 +54,11 @@ kind_line FileKind.Strategic = codes "table\n"
 abbrev pub IsKindLine : FileKind → List ℕ → List ℕ → Type 0
 IsKindLine kind bytes text = MeansFileOf bytes kind × (text ≡ kind_line kind)
 
--- the bytes mean a file, and this is the line of its kind after the name of the file
+-- the bytes mean a file, and this is the line of its kind after the name of the file, as it is shown
 pub record IsNamedKind (name bytes text : List ℕ) : Type 0 where
   pub kind : FileKind
   pub means : MeansFileOf bytes kind
-  pub is_text : text ≡ name ++ codes ": " ++ kind_line kind
+  pub is_text : text ≡ after_name name (kind_line kind)
 
 -- ---- its canonical text
 

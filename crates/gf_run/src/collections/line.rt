@@ -1,17 +1,18 @@
 //! The line about one of several files, and the run that writes it.
 
-ghost use Rattle.std.specs.Prelude.{◌≡◌, ◌++◌, IfOk, MatchResult, codes};
-ghost use Rattle.gf_run.specs.LineText.{IsHashOf, IsLineOf, hash_line, kind_line};
+ghost use Rattle.std.specs.Prelude.{◌≡◌, IfOk, MatchResult};
+ghost use Rattle.gf_run.specs.LineText.{IsHashOf, IsLineOf, hash_line};
 ghost use Rattle.gf_run.specs.FormText.{IsFaultOfFile, IsRefusal};
 ghost use Rattle.gf_run.specs.Run.{RunsLine};
 
 use crate::fault::{RunFault, Which};
+use crate::jobs::ending::after_name;
 use crate::streams::sink::Sink;
 use crate::streams::source::{Source, load};
 use crate::texts::answer::{Answer, answer_with, write_answer};
 use crate::texts::game::{are_canonical, canon, kind_line, kind_of};
 use crate::texts::name::{end_text, mark, push_name, push_name_line};
-use gf_canon::{FileKind, Names, sha256_of};
+use gf_canon::{Names, sha256_of};
 use gf_words::LineEnd;
 use std::alloc::{AllocError, Global};
 
@@ -24,16 +25,6 @@ pub enum FileLine {
     Hash(Names, LineEnd),
     /// Its name, if it is not its own canonical text, with names or without; otherwise nothing.
     NotCanonical(Names),
-}
-
-/// The line of a kind after the name of the file.
-fn named_kind(alloc: Global, name: &str, kind: FileKind) -> Result<Vec<u8>, AllocError>
-    ensures { IfOk result (λ line. line.items ≡ name.now ++ codes ": " ++ kind_line kind) }
-{
-    let mut line = Vec::from_slice(alloc, name.as_bytes())?;
-    line.extend_from_slice(b": ")?;
-    line.extend_from_slice(kind_line(kind))?;
-    Ok(line)
 }
 
 /// The hash of these bytes' canonical text: SHA-256 (FIPS 180-4).
@@ -72,7 +63,7 @@ fn said_of(
     match line {
         FileLine::Kind => {
             let kind = kind_of(alloc, bytes)?;
-            Ok(answer_with(true, named_kind(alloc, name, kind)?))
+            Ok(answer_with(true, after_name(alloc, name, kind_line(kind))?))
         }
         FileLine::Hash(names, end) => {
             let hash = hash_of(alloc, bytes, names)?;
@@ -92,7 +83,7 @@ fn said_of(
 /// Writes this line about the file that it reads, after reading it whole, and returns whether
 /// nothing is against the file: false only if it is not its own canonical text and should be.
 ///
-/// - `Kind`: `NAME: tree` or `NAME: table`, and a line feed.
+/// - `Kind`: `NAME: tree` or `NAME: table`, the name as it is shown, and a line feed.
 /// - `Hash`: the hash of the canonical text, with names or without, and the name, as `sha256sum`
 ///   does: `HEX  NAME` and a line feed. If the name has a line feed, a carriage return or a
 ///   backslash, these are written `\n`, `\r` and `\\`, and the line begins with a backslash. With
