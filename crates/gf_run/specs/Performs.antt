@@ -208,13 +208,14 @@ module _ {I S E : Type 0} (opener : Opener I S) (reader : Stream S) (errors : St
 
 -- after all files: their groups were written, unless the writer failed or memory ran out, which was
 -- reported
-abbrev pub WritesGroups : {I W E : Type 0} → Stream W → Stream E → LineEnd → W → ℕ
+abbrev pub WritesGroups : {I W E : Type 0} → Stream W → Stream E → Bool → LineEnd → W → ℕ
     → World I (List HashedFile) E → World I W E → Type 0
-WritesGroups writer errors end output status a b = (result : Result Bool RunFault)
+WritesGroups writer errors explain end output status a b = (result : Result Bool RunFault)
     × (b.inputs ≡ a.inputs) × Writes writer (λ apart text. (apart ≡ are_apart a.output)
     × (text ≡ groups_text end (duplicates a.output))) (λ why. why ≡ RunFault.Memory)
     result output b.output
-    × Ends (IsReported errors []) answer_status result None status a.errors b.errors
+    × Ends (IsReported errors []) answer_status result (kept_at_first explain) status
+    a.errors b.errors
 
 -- all files: none has a hash at first
 abbrev pub FindsAll : {I S W E : Type 0} → Opener I S → Stream S → Stream W → Stream E → Bool
@@ -222,7 +223,7 @@ abbrev pub FindsAll : {I S W E : Type 0} → Opener I S → Stream S → Stream 
 FindsAll opener reader writer errors explain names end files status a b =
     GoesOver (HashesNext opener reader errors explain names)
     (IsOutOfMemory opener reader errors explain names a.output)
-    (WritesGroups writer errors end a.output) files 0 status (reading [] a) b
+    (WritesGroups writer errors explain end a.output) files 0 status (reading [] a) b
 
 -- ---- by the task
 
@@ -267,28 +268,27 @@ abbrev pub repeats_of : Task → Repeats
 repeats_of (Task.Duplicates names end) = Repeats.PassedOver
 repeats_of task = Repeats.Kept
 
--- why the files may not be known: a list of names could not be read, or memory ran out
+-- why the files may not be known: memory ran out, or a list of names could not be read
 abbrev pub IsUnlisted : Paths → RunFault → Type 0
-IsUnlisted (Paths.List list end) (RunFault.Read Which.Only) = Unit {0}
 IsUnlisted paths RunFault.Memory = Unit {0}
+IsUnlisted (Paths.List list end) (RunFault.Read Which.Only) = Unit {0}
 IsUnlisted paths fault = ⊥
 
--- Why the files are not known was reported: that a list could not be read, after its name, and
--- explained if `explain` is true; or that memory ran out.
-abbrev pub IsToldOfPaths : {E : Type 0} → Stream E → Bool → Paths → RunFault → ℕ → E → E → Type 0
-IsToldOfPaths errors explain (Paths.List list end) fault status old new =
-    IsToldOf errors (word_of list) (kept_at_first explain) fault status old new
-    ⊎ ((status ≡ status_of fault) × IsTold errors (fault_line fault) old new)
-IsToldOfPaths errors explain paths fault status old new =
-    (status ≡ status_of fault) × IsTold errors (fault_line fault) old new
+-- It was reported why no file is opened: a list could not be read, which is said after its name, and
+-- explained if `explain` is true; or memory ran out.
+abbrev pub IsToldOfPaths : {E : Type 0} → Stream E → Bool → RunFault → Paths → ℕ → E → E → Type 0
+IsToldOfPaths errors explain (RunFault.Read which) (Paths.List list end) =
+    IsToldOf errors (word_of list) (kept_at_first explain) (RunFault.Read which)
+IsToldOfPaths errors explain fault paths =
+    λ status old new. (status ≡ status_of fault) × IsTold errors (fault_line fault) old new
 
 -- what is said of folders that have no game files: a line for each
 abbrev pub without_games : List (List ℕ) → List ℕ
 without_games folders = flat_map (λ folder. after_name folder (codes "no game files\n")) folders
 
--- it was said of these, as far as memory and the writer allowed
+-- it was said of these, as far as the writer allowed
 abbrev pub AreToldOf : {E : Type 0} → Stream E → List (List ℕ) → E → E → Type 0
-AreToldOf errors folders old new = (new ≡ old) ⊎ IsTold errors (without_games folders) old new
+AreToldOf errors folders = IsTold errors (without_games folders)
 
 -- for what opens inputs: what is opened to find the files of a collection. A list of names is
 -- opened once, if it can be.
@@ -345,10 +345,10 @@ module _ {I S W E : Type 0} (opener : Opener I S) (reader : Stream S) (writer : 
         → AreToldOf errors folders a.errors mid.errors
         → Does opener reader writer errors explain task files status mid b
         → PerformsAll task paths status a b
-    -- they are not, which was reported
+    -- they are not, or memory for that report ran out, which was reported
     unlisted : (fault : RunFault) → IsUnlisted paths fault
         → ArePathsOpened opener paths a.inputs b.inputs → b.output ≡ a.output
-        → IsToldOfPaths errors explain paths fault status a.errors b.errors
+        → IsToldOfPaths errors explain fault paths status a.errors b.errors
         → PerformsAll task paths status a b
 
   abbrev pub Performs : Job → ℕ → World I W E → World I W E → Type 0

@@ -2,7 +2,7 @@
 
 ghost use Rattle.std.specs.Prelude.{◌≡◌, ◌++◌, IfOk, OnOk, codes, map};
 ghost use Rattle.std.specs.String.{string_bytes};
-ghost use Rattle.gf_run.specs.Performs.{AreToldOf, Does, IsSame, IsToldOfPaths, PerformsAll};
+ghost use Rattle.gf_run.specs.Performs.{Does, IsSame, IsToldOfPaths, PerformsAll};
 ghost use Rattle.gf_run.specs.Performs.{repeats_of, without_games, world_of};
 ghost use Rattle.gf_run.specs.Reports.{after_name};
 
@@ -35,7 +35,7 @@ pub enum Task {
 }
 
 impl Task {
-    /// Whether a file is kept that a folder has by two names.
+    /// Whether a file that a folder holds under two names is read for both.
     pub fn repeats(self) -> Repeats
         ensures { result ≡ repeats_of self }
     {
@@ -55,12 +55,12 @@ fn tell_unlisted<E: Sink>(
     explain: bool,
     errors: &mut E,
 ) -> u8
-    ensures { IsToldOfPaths E.writer explain paths.now failed.now.fault result
+    ensures { IsToldOfPaths E.writer explain failed.now.fault paths.now result
         errors.old errors.new }
 {
     let Failed { fault, cause } = failed;
-    match (paths, fault) {
-        (Paths::List { list, .. }, RunFault::Read(_)) => {
+    match (fault, paths) {
+        (RunFault::Read(_), Paths::List { list, .. }) => {
             tell_of(
                 alloc,
                 fault,
@@ -94,15 +94,6 @@ fn without_games(alloc: Global, folders: &[String]) -> Result<Vec<u8>, AllocErro
     Ok(text)
 }
 
-/// Reports the folders that have no game files, as far as memory and standard error allow.
-fn tell_without_games<E: Sink>(alloc: Global, folders: &[String], errors: &mut E)
-    ensures { AreToldOf E.writer (map string_bytes folders.now) errors.old errors.new }
-{
-    if let Ok(text) = without_games(alloc, folders) {
-        let _ = push_all(errors, text.as_slice());
-    }
-}
-
 impl<I: Inputs, P: Progress, W: Sink + LastError, E: Sink> Session<'_, '_, '_, '_, I, P, W, E> {
     /// Does this for files, and returns the exit status.
     pub(crate) fn run_task(&mut self, files: &[CollectionFile], task: Task) -> u8
@@ -119,9 +110,9 @@ impl<I: Inputs, P: Progress, W: Sink + LastError, E: Sink> Session<'_, '_, '_, '
 
     /// Does a task for the files of a collection, and returns the exit status.
     ///
-    /// All paths are followed before a file is opened. If memory runs out then, E19 is reported; if
-    /// a list of names cannot be opened or read, E20 is reported after its name, and explained if
-    /// `explain` is true.
+    /// All paths are followed, and folders that have no game files are reported, before a file is
+    /// opened. If memory runs out then, E19 is reported; if a list of names cannot be opened or read,
+    /// E20 is reported after its name, and explained if `explain` is true.
     pub(crate) fn perform_all<R>(&mut self, rt: &R, paths: &Paths, task: Task) -> u8
     where
         R: Files + AllocGlobal,
@@ -130,11 +121,14 @@ impl<I: Inputs, P: Progress, W: Sink + LastError, E: Sink> Session<'_, '_, '_, '
             task paths.now result (world_of self.old) (world_of self.new) }
     {
         match files_at(rt, self.inputs, paths, task.repeats()) {
-            Ok(found) => {
-                tell_without_games(self.alloc, found.without_games.as_slice(), self.errors);
-                self.run_task(found.files.as_slice(), task)
-            }
-            Err(failed) => { tell_unlisted(self.alloc, paths, &failed, self.explain, self.errors) }
+            Ok(found) => match without_games(self.alloc, found.without_games.as_slice()) {
+                Ok(text) => {
+                    let _ = push_all(self.errors, text.as_slice());
+                    self.run_task(found.files.as_slice(), task)
+                }
+                Err(AllocError) => tell(&RunFault::Memory, self.errors),
+            },
+            Err(failed) => tell_unlisted(self.alloc, paths, &failed, self.explain, self.errors),
         }
     }
 }

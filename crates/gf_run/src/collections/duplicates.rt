@@ -10,11 +10,12 @@ use crate::collections::file::{CollectionFile, name_of, open_file};
 use crate::collections::groups::Groups;
 use crate::collections::line::hash_of;
 use crate::collections::progress::Progress;
-use crate::explain::cause_of_source;
+use crate::explain::{Cause, cause_of_source};
 use crate::fault::{RunFault, Which, answer_status};
-use crate::jobs::ending::{tell, tell_of, tell_unopened_of};
+use crate::jobs::ending::{nothing_kept, tell, tell_of, tell_of_file, tell_unopened_of};
 use crate::jobs::session::Session;
 use crate::opening::inputs::Inputs;
+use crate::streams::last_error::LastError;
 use crate::streams::sink::Sink;
 use crate::streams::source::{Source, load};
 use crate::texts::answer::write_answer;
@@ -30,9 +31,9 @@ fn read_hash<R: Source>(alloc: Global, input: &mut R, names: Names) -> Result<[u
     hash_of(alloc, bytes.as_slice(), names)
 }
 
-impl<I: Inputs, P: Progress, W: Sink, E: Sink> Session<'_, '_, '_, '_, I, P, W, E> {
+impl<I: Inputs, P: Progress, W: Sink + LastError, E: Sink> Session<'_, '_, '_, '_, I, P, W, E> {
     /// Reads a file, and puts its name into the group of its hash, or reports its fault, and returns
-    /// the status. If memory for the group runs out, which ends the run, it is the error.
+    /// the status. If memory for the group runs out, the run ends, and the status is the `Err`.
     fn hash_next<'f>(
         &mut self,
         file: &'f CollectionFile,
@@ -66,16 +67,21 @@ impl<I: Inputs, P: Progress, W: Sink, E: Sink> Session<'_, '_, '_, '_, I, P, W, 
         }
     }
 
-    /// Writes the groups of two files or more, and returns the exit status: 1 if there are any.
+    /// Writes the groups of two files or more, and returns the exit status: 1 if there are any. A
+    /// fault is explained if `explain` is true.
     fn write_groups(&mut self, groups: &Groups<'_>, end: LineEnd) -> u8
         ensures same { IsSame self.old self.new }
         ensures groups { (files : List HashedFile) → IsKeptOf files groups.now
-            → WritesGroups W.writer E.writer end self.old.output.now result
-            (reading files (world_of self.old)) (world_of self.new) }
+            → WritesGroups W.writer E.writer self.old.explain end self.old.output.now
+            result (reading files (world_of self.old)) (world_of self.new) }
     {
         match write_answer(groups.text(self.alloc, end), self.output) {
             Ok(apart) => answer_status(apart),
-            Err(fault) => tell(&fault, self.errors),
+            Err(fault) => {
+                let cause = Cause::Transfer(self.output.last_error());
+                let kept = nothing_kept(self.explain);
+                tell_of_file(self.alloc, &fault, &cause, "", kept, self.errors)
+            }
         }
     }
 

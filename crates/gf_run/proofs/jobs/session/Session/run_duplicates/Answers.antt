@@ -34,4 +34,5 @@ pub returns-clause-all : goal.returns-clause-all
 returns-clause-all g c =
     let now = c.loop-file.invariant in
     closes _ _ _ _ _ _ _ _ now.so_far.2 _ _ _ c.loop-file-test.false
-    (rw now.unwritten at c.write_groups.ensures.groups now.so_far.0 now.so_far.1) c.max-2.ensures
+    (rw (now.same.4, now.unwritten) at c.write_groups.ensures.groups now.so_far.0 now.so_far.1)
+    c.max-2.ensures

@@ -16,6 +16,6 @@ invariant-loop-file g l = record {
       l.fn.self.explain l.names)
       (IsOutOfMemory g.I.Inputs.opener g.I.Opened.Source.reader g.E.Sink.writer l.fn.self.explain
       l.names l.fn.self.output.now)
-      (WritesGroups g.W.Sink.writer g.E.Sink.writer l.end l.fn.self.output.now) l.files
-      l.file-index (reading [] (world_of l.fn.self)) l.worst (reading files (world_of l.self));
+      (WritesGroups g.W.Sink.writer g.E.Sink.writer l.fn.self.explain l.end
+      l.fn.self.output.now) l.files l.file-index (reading [] (world_of l.fn.self)) l.worst (reading files (world_of l.self));
 }
