@@ -1,17 +1,18 @@
 -- The files that are found while a name is followed.
 use Rattle.std.proofs.Common.{◌≡◌, ◌≢◌, ◌∷◌, ◌++◌, ◌⊎◌, [], Bool, Err, Global, IfOk, List, None, Ok}
 use Rattle.std.proofs.Common.{Result, Some, String, ap, false, if◌then◌else◌, inl, inr, refl, subst}
-use Rattle.std.proofs.Common.{option_to_list, sym, true, ℕ, ◌∙◌}
-use Rattle.std.proofs.lemmas.List.{append-nil, append_assoc, same_from_push}
+use Rattle.std.proofs.Common.{◌+◌, ◌<◌, get_or, length, map, option_to_list, sym, take, true, ℕ, ◌∙◌}
+use Rattle.std.proofs.lemmas.List.{append-nil, append_assoc, map_more, same_from_push}
 use Rattle.std.proofs.lemmas.List.Elements.{All-append, All-nil, All-pop, All-push, All-weaker}
 use Rattle.std.specs.Prelude.{codes, nat_eq}
 use Rattle.std.specs.List.{All, ends_with}
 use Rattle.std.specs.Str.Lossy.{utf8_lossy}
 use Rattle.std.specs.String.{string_bytes}
 use Rattle.gf_words.specs.declared.job.Input.{Input}
-use Rattle.gf_run.specs.LedTo.{Adds, HasMet, HasPath, IsFollowed, IsFrom, IsIn, LeadsTo}
-use Rattle.gf_run.specs.LedTo.{MayBePassedOver, folder_at}
+use Rattle.gf_run.specs.LedTo.{AreLedTo, HasPath, IsIn, LeadsTo, MayBePassedOver, folder_at}
+use Rattle.gf_run.specs.LedTo.AreLedTo.{one_more}
 use Rattle.gf_run.specs.LedTo.LeadsTo.{has_files, is_without}
+use Rattle.gf_run.specs.inner.Followed.{Adds, HasMet, IsFollowed, IsFrom}
 use Rattle.gf_run.specs.declared.collections.file.CollectionFile.{CollectionFile}
 use Rattle.gf_run.specs.declared.collections.folders.Repeats.{Repeats}
 
@@ -139,6 +140,16 @@ led (Ok false) repeats name old new other (own, new_is, are, met) = (
       (is_without other),
 )
 led (Err e) repeats name old new other h = tt
+
+-- what names lead to, after one more of them
+pub led_on : {P : Type 0} (name_of : P → List ℕ) (paths : List P) (at : ℕ) (path : P)
+    (repeats : Repeats) (files own new : List CollectionFile) (without own_without : List (List ℕ))
+    → at < length paths → path ≡ get_or paths at path → new ≡ files ++ own
+    → AreLedTo repeats (map name_of (take at paths)) files without
+    → LeadsTo repeats files (name_of path) own own_without
+    → AreLedTo repeats (map name_of (take (at + 1) paths)) new (without ++ own_without)
+led_on name_of paths at path repeats files own new without own_without within is new_is led one =
+    rw (map_more name_of paths at path within, ← is, new_is) (one_more _ _ _ _ _ _ led one)
 
 -- ---- while files wait
 

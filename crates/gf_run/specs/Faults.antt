@@ -41,7 +41,7 @@ status_of RunFault.Memory = 5
 status_of (RunFault.Form FormFault.Memory) = 5
 status_of (RunFault.Form fault) = 2
 
--- if two files mean the same, and if they differ
+-- of an answer: nothing is against it, or something is
 abbrev pub answer_status : Bool → ℕ
 answer_status true = 0
 answer_status false = 1

@@ -11,3 +11,4 @@ pub mod SameText
 pub mod Streams
 pub mod Transfers
 pub mod Wrapped
+pub mod inner

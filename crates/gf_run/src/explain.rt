@@ -27,7 +27,7 @@ pub enum Cause {
 
 impl Cause {
     /// The error, if there is one.
-    pub fn error(&self) -> Option<io::Error> {
+    pub(crate) fn error(&self) -> Option<io::Error> {
         match self {
             Cause::Opening(error) | Cause::Replacing(error) => Some(*error),
             Cause::Transfer(error) => *error,

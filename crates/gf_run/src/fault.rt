@@ -27,10 +27,10 @@ pub enum RunFault {
     /// An input is refused.
     #[error("refused: E{} at {}..{}", .fault.why.code(), .fault.span.start, .fault.span.end)]
     Refused { which: Which, fault: Fault },
-    /// The reader of an input failed.
+    /// An input could not be opened or read.
     #[error("the input could not be read")]
     Read(Which),
-    /// The writer failed.
+    /// The output could not be written, or a text could not take the place of a file.
     #[error("the output could not be written")]
     Write,
     /// A game has no table. If memory runs out, a run returns `Memory` below instead.
@@ -128,11 +128,11 @@ pub fn is_of_second(fault: &RunFault) -> bool
     }
 }
 
-/// The exit status of the answer whether two files mean the same: 0 if they do, and 1 if they
-/// differ.
+/// The exit status of an answer: 0 if two files mean the same, a file is its own canonical text, or
+/// no two files are duplicates; otherwise 1.
 // No edit: `end_of` calls it and has one.
-pub fn answer_status(same: bool) -> u8
-    ensures { result ≡ answer_status same }
+pub fn answer_status(good: bool) -> u8
+    ensures { result ≡ answer_status good }
 {
-    if same { 0 } else { 1 }
+    if good { 0 } else { 1 }
 }

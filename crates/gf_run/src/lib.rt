@@ -16,6 +16,7 @@ pub use collections::folders::Repeats;
 pub use collections::line::{FileLine, run_line};
 pub use collections::paths::{FoundFiles, files_at};
 pub use collections::progress::{Progress, Shown};
+pub use explain::{Cause, Failed};
 pub use fault::{RunFault, Which, WriteFault, answer_status, status};
 pub use jobs::ending::{answer, tell};
 pub use jobs::job::perform;

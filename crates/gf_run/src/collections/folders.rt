@@ -4,8 +4,8 @@ ghost use Rattle.std.specs.Prelude.{◌≡◌, ◌⊎◌, [], ◌∷◌, ◌++�
 ghost use Rattle.std.specs.Prelude.{if◌then◌else◌};
 ghost use Rattle.std.specs.Str.Lossy.{utf8_lossy};
 ghost use Rattle.std.specs.String.{string_bytes};
-ghost use Rattle.gf_run.specs.LedTo.{Adds, HasPath, IsFollowed, IsFrom, LeadsTo};
-ghost use Rattle.gf_run.specs.LedTo.{MayBePassedOver, folder_at};
+ghost use Rattle.gf_run.specs.LedTo.{HasPath, LeadsTo, MayBePassedOver, folder_at};
+ghost use Rattle.gf_run.specs.inner.Followed.{Adds, IsFollowed, IsFrom};
 
 use crate::collections::file::CollectionFile;
 use gf_words::{Input, LineEnd};
@@ -81,7 +81,9 @@ impl KeptFiles {
 /// Whether a file of a folder that came before, by another name, is kept.
 #[derive(Clone, Copy)]
 pub enum Repeats {
+    /// It is kept under each name.
     Kept,
+    /// It is kept only under the first.
     PassedOver,
 }
 
@@ -242,6 +244,8 @@ fn push_below<R: Files + AllocGlobal>(
         folders: BTreeSet::new(alloc),
         has_games: false,
     };
+    // Never reached: the bound is there because each loop has to end. The first turn is the name
+    // itself.
     for turn in 0..u64::MAX {
         let Some(file) = search.waiting.pop() else {
             break;

@@ -16,7 +16,7 @@ use crate::streams::sink::Sink;
 
 impl<I: Inputs, P: Progress, W: Sink + LastError, E: Sink> Session<'_, '_, '_, '_, I, P, W, E> {
     /// Writes the line of the next file, or reports its fault, and returns the status. After a fault
-    /// of the output, which ends the run, it is the error.
+    /// of the output, the run ends, and the status is the `Err`.
     fn write_next(&mut self, file: &CollectionFile, line: FileLine) -> Result<u8, u8>
         ensures same { IsSame self.old self.new }
         ensures next { MatchResult result

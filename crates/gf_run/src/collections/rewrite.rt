@@ -62,6 +62,7 @@ fn put_text<I: Inputs>(
     if are_canonical(alloc, bytes, names)? {
         return Ok(());
     }
+    // Comparing uses the text up, so it is made again.
     let answer = canon(alloc, bytes, names)?;
     replace(inputs, file, answer.text)
 }

@@ -13,7 +13,9 @@ use std::{fs, io};
 /// An input that is open.
 #[derive(Drop)]
 pub enum Opened<S, F> {
+    /// Standard input.
     Standard(S),
+    /// A file that was opened by its name.
     File(F),
 }
 
@@ -35,6 +37,7 @@ pub struct HostInputs<'a> {
 }
 
 impl<'a> HostInputs<'a> {
+    /// What opens inputs by this runtime.
     // No clause: it only lends the runtime.
     pub fn new(rt: &'a HostRuntime) -> HostInputs<'a> {
         HostInputs { rt }

@@ -20,6 +20,7 @@ pub struct Counted<T> {
 }
 
 impl<T> Counted<T> {
+    /// Wraps a reader or a writer. It has not failed yet.
     // No edit: it puts parts together.
     pub fn new(inner: T) -> Counted<T>
         ensures inner { inner_of result ≡ inner }

@@ -9,6 +9,7 @@ use std::io;
 pub trait LastError {
     ghost last: { Self → Option Error };
 
+    /// The last error, or `None` if there was none.
     fn last_error(&self) -> Option<io::Error>
         ensures { result ≡ last self.now };
 }

@@ -9,7 +9,7 @@ use std::io::ErrorKind;
 /// How many interruptions in a row end a turn.
 pub const PATIENCE: u32 = 16;
 
-/// Whether the request that this error answers is repeated.
+/// Whether a read or write with this error is tried again.
 pub fn is_interruption(error: &io::Error) -> bool
     ensures { IsTrue result ↔ (error_kind error.now ≡ ErrorKind.Interrupted) }
 {

@@ -1,6 +1,6 @@
 use Rattle.std.proofs.Common.{rules, subst, ◌≡◌}
 use Rattle.gf_words.specs.declared.job.Input.{Input}
-use Rattle.gf_run.specs.LedTo.{IsFrom}
+use Rattle.gf_run.specs.inner.Followed.{IsFrom}
 use Rattle.gf_run.specs.declared.collections.file.CollectionFile.{CollectionFile}
 use Rattle.gf_run.proofs.Found.{adds_from}
 use Rattle.gf_run.proofs.collections.folders.is_kept.Goals as goal

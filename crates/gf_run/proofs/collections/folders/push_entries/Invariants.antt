@@ -1,4 +1,4 @@
-use Rattle.gf_run.specs.LedTo.{Adds}
+use Rattle.gf_run.specs.inner.Followed.{Adds}
 use Rattle.gf_run.proofs.collections.folders.push_entries.Given as goal
 
 abbrev pub invariant-loop-name : goal.invariant-loop-name

@@ -1,6 +1,7 @@
 use Rattle.std.proofs.Common.{append-nil, map, string_bytes, ◌∙◌}
-use Rattle.std.proofs.lemmas.List.{map_more, map_push, take_all}
-use Rattle.gf_run.specs.LedTo.AreLedTo.{none, one_more}
+use Rattle.std.proofs.lemmas.List.{map_push, take_all}
+use Rattle.gf_run.specs.LedTo.AreLedTo.{none}
+use Rattle.gf_run.proofs.Found.{led_on}
 use Rattle.gf_run.proofs.collections.paths.files_led_to.Goals as goal
 
 pub loop-path-init : goal.loop-path-init
@@ -15,15 +16,12 @@ loop-path-preserved g c =
     let some = c.in_ok-push_files.ensures.files in record {
       repeats = c.in_ok-push_files.ensures.repeats ∙ now.repeats;
       led = rw (
-        map_more g.P.AsSlice.items c.args.paths.now c.loop-path.path-index c.path-item.result
-            c.loop-path-test.true,
-        ← c.path-item.is,
-        some.1,
         c.in_ok-push.ensures.items,
         map_push string_bytes c.loop-path.without_games.items c.in_ok-from_utf8_lossy.field-0,
         c.in_ok-from_utf8_lossy.ensures.lossy,
         c.as_slice-path.ensures,
-      ) (one_more _ _ _ _ _ _ now.led
+      ) (led_on g.P.AsSlice.items c.args.paths.now _ _ _ _ _ _ _ _ c.loop-path-test.true
+          c.path-item.is some.1 now.led
           (rw (now.repeats, c.if-branch.false, c.as_slice-path.ensures) at some.2));
     }
 
@@ -32,14 +30,10 @@ loop-path-preserved-then-branch g c =
     let now = c.loop-path.invariant in
     let some = c.in_ok-push_files.ensures.files in record {
       repeats = c.in_ok-push_files.ensures.repeats ∙ now.repeats;
-      led = rw (
-        map_more g.P.AsSlice.items c.args.paths.now c.loop-path.path-index c.path-item.result
-            c.loop-path-test.true,
-        ← c.path-item.is,
-        some.1,
-      ) (rw (append-nil (map string_bytes c.loop-path.without_games.items)) at
-          (one_more _ _ _ _ _ _ now.led
-          (rw (now.repeats, c.if-branch.true, c.as_slice-path.ensures) at some.2)));
+      led = rw (append-nil (map string_bytes c.loop-path.without_games.items)) at
+          (led_on g.P.AsSlice.items c.args.paths.now _ _ _ _ _ _ _ _ c.loop-path-test.true
+          c.path-item.is some.1 now.led
+          (rw (now.repeats, c.if-branch.true, c.as_slice-path.ensures) at some.2));
     }
 
 pub returns : goal.returns
