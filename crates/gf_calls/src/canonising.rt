@@ -33,7 +33,8 @@ fn write_text(
     }
 }
 
-/// Writes the canonical text of a file, with names as the flags say.
+/// Writes the canonical text of a file, with names as the flags say. Answers as the head of this
+/// crate says.
 pub fn write_canonical(
     alloc: Global,
     input: &[u8],
@@ -81,7 +82,7 @@ fn write_hash_by(
     }
 }
 
-/// Writes the hash of a file, with names as the flags say.
+/// Writes the hash of a file, with names as the flags say. Answers as the head of this crate says.
 pub fn write_hash(
     alloc: Global,
     input: &[u8],

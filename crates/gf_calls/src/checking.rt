@@ -18,7 +18,7 @@ fn kind_number(kind: FileKind) -> u32
     }
 }
 
-/// Checks a file, and reports its kind or its refusal.
+/// Checks a file, and reports its kind or its refusal. Answers as the head of this crate says.
 pub fn check_file(alloc: Global, input: &[u8], kind: &mut u32, fault: &mut FaultNumbers) -> Status
     ensures { IsChecked input.now (record { kind = kind.old; numbers = fault.old })
         (record { kind = kind.new; numbers = fault.new }) result }

@@ -59,7 +59,7 @@ fn compare_by(
     }
 }
 
-/// Compares two files, with names as the flags say.
+/// Compares two files, with names as the flags say. Answers as the head of this crate says.
 pub fn compare(
     alloc: Global,
     a: &[u8],

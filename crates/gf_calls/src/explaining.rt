@@ -37,7 +37,8 @@ fn explained_status(handed: Status) -> Status
     }
 }
 
-/// If a file is refused, writes why and where, in words, after this name.
+/// If a file is refused, writes why and where, in words, after this name. Answers as the head of
+/// this crate says.
 pub fn write_explanation(
     alloc: Global,
     input: &[u8],

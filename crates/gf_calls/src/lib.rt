@@ -2,6 +2,19 @@
 //! hashes, tables, comparisons and renumberings of game files, in numbers and in the caller's
 //! buffers. Each answer is that of a call of gf_canon, gf_form or gf_explain, with its clauses;
 //! gamefile_c exports them.
+//!
+//! Each call writes only what its status promises:
+//! - `Done`: the answer is at the start of `out`, and `needed` is its length in bytes (of a
+//!   renumbering: in pairs). Of a check, `kind` is the answer: 1 for a tree, 2 for a table.
+//! - `TooSmall`: `needed` is that length, and `out` is as it was.
+//! - `Refused`: `fault` has the code and the place in bytes from 0; of two files, `which` is 0 or 1.
+//! - `OutOfMemory`: if memory ran out while a file was read, `fault` is set as for `Refused`, with
+//!   the code 19.
+//! - `Overflow`: `profile` is the number of the profile, from 1.
+//! - `Different`, `TooManyProfiles`, `Misuse`: nothing is written.
+//!
+//! `write_explanation` answers `Refused` where another call answers `Done`, `Done` if the file is
+//! valid, and sets `fault` for each refused file.
 #![tactic(auto)]
 
 mod canonising;

@@ -10,7 +10,8 @@ use crate::status::Status;
 use gf_canon::pairs_of_files;
 use std::alloc::Global;
 
-/// Hands out which numbers of two files correspond, if these mean the same.
+/// Hands out which numbers of two files correspond, if these mean the same. Answers as the head of
+/// this crate says.
 pub fn write_renumbering(
     alloc: Global,
     a: &[u8],

@@ -118,7 +118,8 @@ fn write_by(
     }
 }
 
-/// Writes a file as a table, with strategies as the flags say.
+/// Writes a file as a table, with strategies as the flags say. Answers as the head of this crate
+/// says.
 pub fn write_table(
     alloc: Global,
     input: &[u8],
