@@ -25,7 +25,8 @@ typedef enum {
     GAMEFILE_DIFFERENT = 1,         /* two files do not mean the same game */
     GAMEFILE_REFUSED = 2,           /* a file is refused; the fault says why, and where */
     GAMEFILE_MISUSE = 3,            /* a flag that the call does not take; NULL with a length above
-                                       0; a NULL `hash`; a table of 4,294,967,296 players or more */
+                                       0; a length above PTRDIFF_MAX bytes; a NULL `hash`; a
+                                       table of 4,294,967,296 players or more */
     GAMEFILE_NOMEM = 5,             /* out of memory */
     GAMEFILE_TOO_MANY_PROFILES = 6, /* a table would have more than 1,048,576 profiles */
     GAMEFILE_OVERFLOW = 7,          /* a payoff of a table cannot be worked out within 127 bits */
