@@ -7,8 +7,8 @@ pub const VERSION: &str = "1.0.0";
 pub const HEAD: &str = "gamefile 1.0.0";
 
 pub const ABOUT: &str = "\
-Read Gambit game files: write each game in canonical form or as a table, and
-compare games";
+Check Gambit game files, write them in canonical form or as tables, and compare
+them";
 
 pub const AFTER: &str = "\
 A game file is extensive (.efg) and holds a tree, or strategic (.nfg) and holds
@@ -36,7 +36,9 @@ pub const EXPLAIN: &str = "Explain what is wrong, and where";
 
 pub const CANON: &str = "Write the canonical text of a game file";
 
-pub const CANON_FILES: &str = "Files and folders; if none, standard input (not for --write)";
+pub const CANON_FILES: &str = "\
+One file; with --check or --write, files and folders;
+if none, standard input (not for --write)";
 
 pub const CANON_CHECK: &str = "Write the names of files that are not in canonical form";
 
@@ -209,8 +211,8 @@ Writes same, with status 0, or different, with status 1. Two trees are the same
 if renumbering the information sets and outcomes of one gives the other. Two
 tables are the same if their titles, comments, players, strategy labels and the
 payoffs at each profile agree. A tree and a table are never the same. If a file
-is refused or cannot be read, its line on standard error begins with A: or B:
-and the status is 2 or 4.
+is refused or cannot be read, its line on standard error begins with A: or B:,
+but not with --explain, which names the file, and the status is 2 or 4.
 
 With --map, a line 'set P X Y' follows for each information set of player P (0
 is chance): X is its number in A, and Y its number in B. A line 'outcome X Y'

@@ -89,6 +89,6 @@ pub struct Request {
     pub job: Job,
     /// Whether its fault is explained in words.
     pub explain: bool,
-    /// Whether the terminal does not show how many files are done.
+    /// Whether progress is hidden.
     pub quiet: bool,
 }

@@ -79,7 +79,7 @@ fn input_of(alloc: Global, given: &ArgMatches<'_>) -> Result<Input, AllocError>
     }
 }
 
-/// The name of a file that has to be named, so that there is one.
+/// The value of an argument that `clap` requires, so it is never missing.
 fn name_of(alloc: Global, given: &ArgMatches<'_>, id: &str) -> Result<String, AllocError>
     ensures { IfOk result (λ name.
         string_bytes name ≡ file_named id.now (rows_of (found_of given.now))) }
@@ -199,26 +199,28 @@ fn canon_of(alloc: Global, given: &ArgMatches<'_>) -> Result<Job, WordsFault>
         (λ fault. canon_fits (rows_of (found_of given.now)) ≡ true → fault ≡ Memory) }
 {
     let names = names_of(given);
-    if is_given(given, "check") {
-        if is_given(given, "write") {
-            return Err(wrong(alloc, help::CHECK_AND_WRITE));
+    match (is_given(given, "check"), is_given(given, "write")) {
+        (true, true) => Err(wrong(alloc, help::CHECK_AND_WRITE)),
+        (true, false) => {
+            let files = paths_of(alloc, given)?;
+            Ok(Job::CheckCanon { files, names })
         }
-        let files = paths_of(alloc, given)?;
-        return Ok(Job::CheckCanon { files, names });
-    }
-    if is_given(given, "write") {
-        if !are_files(texts_of(given, "FILES")) {
-            return Err(wrong(alloc, help::WRITE_TO_NOTHING));
+        (false, true) => {
+            if !are_files(texts_of(given, "FILES")) {
+                return Err(wrong(alloc, help::WRITE_TO_NOTHING));
+            }
+            let files = paths_of(alloc, given)?;
+            Ok(Job::WriteCanon { files, names })
         }
-        let files = paths_of(alloc, given)?;
-        return Ok(Job::WriteCanon { files, names });
-    }
-    if is_given(given, "quiet") {
-        return Err(wrong(alloc, help::QUIET_ALONE));
-    }
-    match input_alone(alloc, given)? {
-        Some(input) => Ok(Job::Canon { input, names }),
-        None => Err(wrong(alloc, help::SEVERAL_TEXTS)),
+        (false, false) => {
+            if is_given(given, "quiet") {
+                return Err(wrong(alloc, help::QUIET_ALONE));
+            }
+            match input_alone(alloc, given)? {
+                Some(input) => Ok(Job::Canon { input, names }),
+                None => Err(wrong(alloc, help::SEVERAL_TEXTS)),
+            }
+        }
     }
 }
 

@@ -15,12 +15,14 @@ use std::alloc::{AllocError, Global};
 /// Whether a word that is not a command looks like the name of a game file. A word that a terminal
 /// may not show as it is does not.
 fn looks_like_file(word: &str) -> bool {
-    for byte in word.as_bytes() {
+    let bytes = word.as_bytes();
+    for byte in bytes {
         if !byte.is_ascii_graphic() {
             return false;
         }
     }
-    word.ends_with(".efg") || word.ends_with(".nfg")
+    let end = &bytes[bytes.len().saturating_sub(4)..];
+    word == "-" || end.eq_ignore_ascii_case(b".efg") || end.eq_ignore_ascii_case(b".nfg")
 }
 
 /// Appends the command that was perhaps meant, if the first word names a file instead.
@@ -60,8 +62,7 @@ fn fault_of(alloc: Global, error: &Error, words: &[&str]) -> WordsFault
 }
 
 /// What the words after the program's name ask for, and how: whether a fault is explained, and
-/// whether the terminal does not show how many files are done. `parse_words` says which words there
-/// are, and how they fail.
+/// whether progress is hidden. `parse_words` says which words there are, and how they fail.
 pub fn parse_request(alloc: Global, words: &[&str]) -> Result<Request, WordsFault>
     ensures request { IfOk result (IsRequestIn (map (λ word. word.now) words.now)) }
     ensures taken { are_taken (map (λ word. word.now) words.now) ≡ true
@@ -95,8 +96,5 @@ pub fn parse_words(alloc: Global, words: &[&str]) -> Result<Job, WordsFault>
     ensures taken { are_taken (map (λ word. word.now) words.now) ≡ true
         → IfErr result (λ fault. fault ≡ WordsFault.Memory) }
 {
-    match parse_request(alloc, words) {
-        Ok(request) => Ok(request.job),
-        Err(fault) => Err(fault),
-    }
+    Ok(parse_request(alloc, words)?.job)
 }
