@@ -191,7 +191,8 @@ static const char *const hints[] = {
     [2] = "a quotation mark inside a label is written \\\" ; a label cannot end in a backslash",
     [4] = "write 3, -0.5, 1e-3 or 1/3",
     [6] = "numerators and denominators have at most 127 bits; at most 38 digits after the point",
-    [10] = "repeat it exactly, or leave it out",
+    [10] = "repeat it, leave it out, or give what is different a new number",
+    [12] = "probabilities are exact: write 1/6 rather than 0.166667, and 1/2 rather than 50",
     [13] = "probabilities are exact: write 1/3 rather than 0.333",
 };
 

@@ -13,15 +13,17 @@ OF_CODES = {
     2: 'a quotation mark inside a label is written \\" ; a label cannot end in a backslash',
     4: "write 3, -0.5, 1e-3 or 1/3",
     6: "numerators and denominators have at most 127 bits; at most 38 digits after the point",
-    10: "repeat it exactly, or leave it out",
+    10: "repeat it, leave it out, or give what is different a new number",
+    12: "probabilities are exact: write 1/6 rather than 0.166667, and 1/2 rather than 50",
     13: "probabilities are exact: write 1/3 rather than 0.333",
 }
 NAME = 'a name comes before the braces, perhaps ""'
 COMMENT = "a file has one comment, and this would be a second one"
-PAYOFFS = "give one payoff for each player"
+PAYOFFS = "give one payoff for each player; decimals have a point, not a comma"
 COUNTS = "give one number of strategies for each player"
 CAPITAL = "write it in capital letters"
-CHANCE = "only the actions of chance moves have probabilities"
+NOT_CLOSED = "perhaps a closing brace is missing before this"
+CHANCE = f"only the actions of chance moves have probabilities; {NOT_CLOSED}"
 LISTS = "give one list of strategies for each player"
 FORMATS = [
     (rb"\xef\xbb\xbf", "the file begins with a byte order mark; save it as UTF-8 without one"),
@@ -89,6 +91,13 @@ class Scene:
     def is_numeric(self):
         return re.match(rb"[0-9.+-]", self.token.spelled) is not None
 
+    def is_joined(self):
+        """Whether the token is joined to a text: a bare token, a text or a quote."""
+        if not self.follows("text") or self.token.kind not in ("text", "bare", "broken"):
+            return False
+        _, text, start = self.before[-1]
+        return start + len(text) == self.token.start
+
 
 def of_token(scene):
     """The hint about the spelling of the token."""
@@ -101,12 +110,10 @@ def of_token(scene):
 
 
 def of_text_before(scene):
-    """The hint about a text that a bare token, a text or a quote is joined to."""
-    if not scene.follows("text") or scene.token.kind not in ("text", "bare", "broken"):
+    """The hint about a text that the token is joined to."""
+    if not scene.is_joined():
         return None
     _, text, start = scene.before[-1]
-    if start + len(text) != scene.token.start:
-        return None
     line, column = scene.data[:start].count(b"\n") + 1, start - scene.data.rfind(b"\n", 0, start)
     begins = f"the text before this begins at line {line}, column {column}"
     if re.search(rb'\\"[ \t\r\n{},]', text[1:-1]):
@@ -153,7 +160,7 @@ def of_number(scene):
         if kind == "end":
             players, profiles = len(scene.reader.players), calls["table"]["profiles"]
             needed = f"{players * profiles} payoffs (players times profiles, {players} x {profiles})"
-            return f"the body needs {needed}; it has {numbers}"
+            return f"the body has {numbers} of {needed}"
         return COMMENT if kind == "text" and scene.follows("text") else None
     if "payoffs" in calls:
         return PAYOFFS if kind == "}" else None
@@ -165,8 +172,8 @@ def of_index(scene):
         return COUNTS
     if "outcome_rows" in scene.calls and scene.token.kind == "end":
         rows = scene.calls["outcome_rows"]
-        needed = f"{rows['profiles']} numbers of outcomes (one for each profile)"
-        return f"the body needs {needed}; it has {len(rows['rows'])}"
+        needed = f"{rows['profiles']} outcome numbers (one for each profile)"
+        return f"the body has {len(rows['rows'])} of {needed}"
     return None
 
 
@@ -185,8 +192,18 @@ def of_closing(scene):
     if "known_actions" in scene.calls:
         return of_action(scene)
     if scene.is_numeric():
-        return PAYOFFS if "payoffs" in scene.calls else COUNTS
+        if "payoffs" in scene.calls:
+            return PAYOFFS
+        return NOT_CLOSED if scene.follows("}") else COUNTS
     return LISTS if scene.token.kind == "{" and "payoffs" not in scene.calls else None
+
+
+def of_opening(scene):
+    if "outcome_rows" in scene.calls and scene.follows("}") and scene.is_numeric():
+        return NOT_CLOSED
+    if scene.is_joined():
+        return 'a quotation mark inside a label is written \\"'
+    return LISTS if "strategies" in scene.calls and scene.token.kind == "}" else None
 
 
 def of_expected(scene):
@@ -196,10 +213,8 @@ def of_expected(scene):
         return "a comma may stand only after a payoff in braces; decimals have a point"
     if scene.refusal.due == "Letter":
         return CAPITAL if scene.token.spelled in (b"r", b"d") else None
-    if scene.refusal.due == "Opening":
-        return LISTS if "strategies" in scene.calls and scene.token.kind == "}" else None
-    of = {"Node": of_node, "End": of_end, "Number": of_number, "Closing": of_closing}
-    of |= {"Text": of_text, "Count": of_index, "ProfileOutcome": of_index}
+    of = {"Node": of_node, "End": of_end, "Number": of_number, "Opening": of_opening}
+    of |= {"Closing": of_closing, "Text": of_text, "Count": of_index, "ProfileOutcome": of_index}
     return of.get(scene.refusal.due, lambda _: None)(scene)
 
 

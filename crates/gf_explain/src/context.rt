@@ -205,6 +205,14 @@ impl<'a> Context<'a> {
         is_text(self.last)
     }
 
+    /// Whether the last token is a closing brace.
+    pub fn ends_in_closing(&self) -> bool {
+        match self.last {
+            Some(token) => matches!(token.kind, Kind::Closing),
+            None => false,
+        }
+    }
+
     /// The last token if it is bare.
     pub fn last_bare(&self) -> Option<&'a [u8]> {
         match self.last {
@@ -249,6 +257,7 @@ fn is_text(token: Option<Token<'_>>) -> bool {
 pub fn context_of(before: &[u8]) -> Context<'_> {
     let mut cursor = Cursor::new(before);
     let mut context = Context::at_start();
+    // A token has a byte or more, so these are enough turns.
     for _ in 0..before.len() {
         match cursor.next() {
             Ok(Some(token)) => context = context.after(token),

@@ -3,106 +3,119 @@
 ghost use Rattle.std.specs.Prelude.{OnOk};
 ghost use Rattle.gf_explain.specs.Place.{EndsLine};
 
-use crate::mistake::Mistake;
+use crate::mistake::{Mistake, Quote};
 use crate::shown::{Part, ShownText, push_part};
+use crate::spelling::Spelling;
 use itoa::Buffer;
 use std::alloc::AllocError;
 
-/// The sentence of a mistake in a number, a name or a description.
-fn about_value(mistake: &Mistake) -> &'static str {
-    match mistake {
-        Mistake::NoName => "a name comes before the braces, perhaps \"\"",
-        Mistake::NoNodeName => "a node's name comes after its letter, perhaps \"\"",
-        Mistake::ApartFraction => "a fraction has no spaces in it, as in 1/2",
-        Mistake::NullOutcome => "outcome 0 takes no description",
-        Mistake::NotOnePayoff => "give one payoff for each player",
-        Mistake::NotOneCount => "give one number of strategies for each player",
-        Mistake::NotOneListForEach => "give one list of strategies for each player",
-        Mistake::NoProbability => "each action of a chance move has a probability",
-        Mistake::PlayersProbability => "only the actions of chance moves have probabilities",
-        Mistake::CommaAfterLabel => "remove the comma: labels are separated by spaces",
-        Mistake::Comma => {
-            "a comma may stand only after a payoff in braces; decimals have a point"
-        }
-        Mistake::NotANumber => "write 3, -0.5, 1e-3 or 1/3",
-        Mistake::NumberTooLarge => {
-            "numerators and denominators have at most 127 bits; at most 38 digits after the point"
-        }
-        Mistake::Mismatch => "repeat it exactly, or leave it out",
-        _ => "probabilities are exact: write 1/3 rather than 0.333",
-    }
-}
-
-/// The sentence of a mistake that has no numbers.
-fn words_of(mistake: &Mistake) -> &'static str {
-    match mistake {
-        Mistake::ByteOrderMark => {
+/// The sentence of a mistake in how a token is spelled.
+fn words_of_spelling(spelling: Spelling) -> &'static str {
+    match spelling {
+        Spelling::ByteOrderMark => {
             "the file begins with a byte order mark; save it as UTF-8 without one"
         }
-        Mistake::Utf16 => "the file seems to be UTF-16; save it as UTF-8 without a byte order mark",
-        Mistake::Xml => {
+        Spelling::Utf16 => {
+            "the file seems to be UTF-16; save it as UTF-8 without a byte order mark"
+        }
+        Spelling::Xml => {
             "this is XML, perhaps a workbook of Gambit (.gbt); save its game as .efg or .nfg"
         }
-        Mistake::ActionGraph => {
+        Spelling::ActionGraph => {
             "this is an action graph game (.agg, .bagg), which gamefile does not read"
         }
-        Mistake::OtherComment => {
+        Spelling::OtherComment => {
             "a file has one comment, a text in double quotes after the players (EFG) or the \
             strategies (NFG)"
         }
-        Mistake::OtherQuotes => "texts stand in straight double quotes, as in \"A\"",
-        Mistake::OtherMinus => {
+        Spelling::OtherQuotes => "texts stand in straight double quotes, as in \"A\"",
+        Spelling::OtherMinus => {
             "this begins with a dash or a minus sign that is not - (U+2212, or U+2010 to U+2015)"
         }
-        Mistake::NoBreakSpace => "this has a no-break space (U+00A0) in it; write a space",
-        Mistake::SmallLetter => "write it in capital letters",
-        Mistake::LoneQuote => {
+        Spelling::NoBreakSpace => "this has a no-break space (U+00A0) in it; write a space",
+        Spelling::SmallLetter => "write it in capital letters",
+        Spelling::ApartFraction => "a fraction has no spaces in it, as in 1/2",
+        Spelling::NotANumber => "write 3, -0.5, 1e-3 or 1/3",
+        Spelling::NumberTooLarge => {
+            "numerators and denominators have at most 127 bits; at most 38 digits after the point"
+        }
+    }
+}
+
+/// The sentence of a mistake about a quotation mark, with `#` for each of its numbers.
+fn words_of_quote(quote: Quote) -> &'static str {
+    match quote {
+        Quote::Escaped(_) => {
+            "the text before this begins at line #, column #; the \\\" in it does not end it, since a \
+            label cannot end in a backslash"
+        }
+        Quote::Open(_, 1) => {
+            "the text before this begins at line #, column #; perhaps a quotation mark is missing"
+        }
+        Quote::Open(_, _) => {
+            "the text before this begins at line #, column # and runs over # lines; perhaps a \
+            quotation mark is missing"
+        }
+        Quote::Lone => {
             "a quotation mark inside a label is written \\\" ; a label cannot end in a backslash"
         }
+        Quote::Inner => "a quotation mark inside a label is written \\\"",
+    }
+}
+
+/// The sentence of a mistake, with `#` for each of its numbers.
+fn words_of(mistake: &Mistake) -> &'static str {
+    match mistake {
+        Mistake::Spelling(spelling) => words_of_spelling(*spelling),
+        Mistake::Quote(quote) => words_of_quote(*quote),
+        Mistake::NoName => "a name comes before the braces, perhaps \"\"",
+        Mistake::NoNodeName => "a node's name comes after its letter, perhaps \"\"",
+        Mistake::NullOutcome => "outcome 0 takes no description",
         Mistake::SecondComment => "a file has one comment, and this would be a second one",
         Mistake::NoRoot => "the tree begins here, after the players and at most one comment",
         Mistake::NoSubtree => "each action needs a subtree",
         Mistake::TreeEnds => "the tree is incomplete: each action needs a subtree",
         Mistake::Complete => "the game is already complete here",
-        other => about_value(other),
+        Mistake::FewPayoffs { .. } => "the body has # of # payoffs (players times profiles, # x #)",
+        Mistake::FewNumbers { .. } => "the body has # of # outcome numbers (one for each profile)",
+        Mistake::NotOnePayoff => {
+            "give one payoff for each player; decimals have a point, not a comma"
+        }
+        Mistake::NotOneCount => "give one number of strategies for each player",
+        Mistake::NotOneListForEach => "give one list of strategies for each player",
+        Mistake::NotClosed => "perhaps a closing brace is missing before this",
+        Mistake::NoProbability => "each action of a chance move has a probability",
+        Mistake::PlayersProbability => {
+            "only the actions of chance moves have probabilities; perhaps a closing brace is \
+            missing before this"
+        }
+        Mistake::CommaAfterLabel => "remove the comma: labels are separated by spaces",
+        Mistake::Comma => "a comma may stand only after a payoff in braces; decimals have a point",
+        Mistake::Mismatch => "repeat it, leave it out, or give what is different a new number",
+        Mistake::SumAboveOne => {
+            "probabilities are exact: write 1/6 rather than 0.166667, and 1/2 rather than 50"
+        }
+        Mistake::SumBelowOne => "probabilities are exact: write 1/3 rather than 0.333",
     }
 }
 
-/// The sentence of a mistake, and the numbers in it: each `#` stands for one.
-fn sentence_of(mistake: &Mistake) -> (&'static str, [usize; 4]) {
+/// The numbers in the sentence of a mistake.
+fn numbers_of(mistake: &Mistake) -> [usize; 4] {
     match mistake {
-        Mistake::EscapedQuote(begin) => (
-            "the text before this begins at line #, column #; the \\\" in it does not end it, since a \
-            label cannot end in a backslash",
-            [begin.line, begin.column, 0, 0],
-        ),
-        Mistake::OpenQuote(begin, 1) => (
-            "the text before this begins at line #, column #; perhaps a quotation mark is missing",
-            [begin.line, begin.column, 0, 0],
-        ),
-        Mistake::OpenQuote(begin, lines) => (
-            "the text before this begins at line #, column # and runs over # lines; perhaps a \
-            quotation mark is missing",
-            [begin.line, begin.column, *lines, 0],
-        ),
+        Mistake::Quote(Quote::Escaped(begin)) => [begin.line, begin.column, 0, 0],
+        Mistake::Quote(Quote::Open(begin, lines)) => [begin.line, begin.column, *lines, 0],
         Mistake::FewPayoffs {
             players,
             profiles,
             found,
-        } => (
-            "the body needs # payoffs (players times profiles, # x #); it has #",
-            [
-                players.saturating_mul(*profiles),
-                *players,
-                *profiles,
-                *found,
-            ],
-        ),
-        Mistake::FewNumbers { profiles, found } => (
-            "the body needs # numbers of outcomes (one for each profile); it has #",
-            [*profiles, *found, 0, 0],
-        ),
-        other => (words_of(other), [0, 0, 0, 0]),
+        } => [
+            *found,
+            players.saturating_mul(*profiles),
+            *players,
+            *profiles,
+        ],
+        Mistake::FewNumbers { profiles, found } => [*found, *profiles, 0, 0],
+        _ => [0; 4],
     }
 }
 
@@ -110,10 +123,10 @@ fn sentence_of(mistake: &Mistake) -> (&'static str, [usize; 4]) {
 pub fn push_hint(text: &mut ShownText, mistake: &Mistake) -> Result<(), AllocError>
     ensures { OnOk result (EndsLine text.new) }
 {
-    let (sentence, numbers) = sentence_of(mistake);
+    let numbers = numbers_of(mistake);
     push_part(text, Part::Shown(b"  hint: "))?;
     let mut next = 0;
-    for character in sentence.chars() {
+    for character in words_of(mistake).chars() {
         if character == '#' && next < numbers.len() {
             let mut buffer = Buffer::new();
             let number = buffer.format(numbers[next]);

@@ -11,6 +11,7 @@ mod mistake;
 mod place;
 mod sentence;
 mod shown;
+mod spelling;
 mod text;
 
 pub use fault_line::{form_line, refusal_line};

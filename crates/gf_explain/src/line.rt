@@ -25,6 +25,7 @@ impl Model for Line {
 }
 
 impl Line {
+    /// An empty line.
     // No edit: it puts parts together.
     pub fn new() -> Line
         ensures { result ≡ [] }
@@ -35,6 +36,7 @@ impl Line {
         }
     }
 
+    /// The bytes so far.
     // No edit: it returns a part.
     pub fn as_slice(&self) -> &[u8]
         ensures { result.now ≡ self.now }
@@ -42,6 +44,7 @@ impl Line {
         &self.bytes[..self.len]
     }
 
+    /// Appends bytes. The caller has to ensure that the line then has at most 80.
     // No edit: `refusal_line` calls it and has one.
     pub fn push(&mut self, part: &[u8])
         requires { length self.old + length part.now ≤ ROOM }
@@ -53,6 +56,7 @@ impl Line {
         self.len = end;
     }
 
+    /// Appends a number in decimal digits. The caller has to ensure that 20 bytes are free.
     // No edit: `refusal_line` calls it and has one.
     pub fn push_number(&mut self, number: usize)
         requires { length self.old + 20 ≤ ROOM }

@@ -2,32 +2,27 @@
 
 use crate::context::Context;
 use crate::place::{Place, place_after};
+use crate::spelling::{Spelling, of_format, of_small_letter, of_spelling};
 use gf_token::{Kind, Token, What, Why};
+
+/// A text that was meant to end elsewhere.
+#[derive(Clone, Copy)]
+pub enum Quote {
+    /// A backslash escapes the quotation mark that was meant to end the text that begins here.
+    Escaped(Place),
+    /// The text that begins here and has so many lines goes on up to the quotation mark of another.
+    Open(Place, usize),
+    /// A quotation mark that opens a text and is never closed.
+    Lone,
+    /// A quotation mark that was meant to stand in a text, perhaps, and ends it.
+    Inner,
+}
 
 /// A mistake that people make when they write game files.
 #[derive(Clone, Copy)]
 pub enum Mistake {
-    ByteOrderMark,
-    Utf16,
-    Xml,
-    ActionGraph,
-    /// A comment of another language, as with `//` or `#`.
-    OtherComment,
-    /// Quotation marks that are typographic or single.
-    OtherQuotes,
-    /// A dash or a minus sign that is not the one of ASCII.
-    OtherMinus,
-    NoBreakSpace,
-    /// A small letter where a capital is due.
-    SmallLetter,
-    /// A fraction with spaces in it.
-    ApartFraction,
-    /// A backslash escapes the quotation mark that was meant to end the text that begins here.
-    EscapedQuote(Place),
-    /// The text that begins here and has so many lines goes on up to the quotation mark of another.
-    OpenQuote(Place, usize),
-    /// A quotation mark that opens a text and is never closed.
-    LoneQuote,
+    Spelling(Spelling),
+    Quote(Quote),
     /// A set or an outcome that is described without its name.
     NoName,
     /// A node without its name.
@@ -60,15 +55,16 @@ pub enum Mistake {
     NotOneCount,
     /// Too few or too many lists of strategies.
     NotOneListForEach,
+    /// A number of the body where the lists or the outcomes before it are not closed.
+    NotClosed,
     NoProbability,
     /// A probability of a player's action.
     PlayersProbability,
     CommaAfterLabel,
     /// A comma anywhere else.
     Comma,
-    NotANumber,
-    NumberTooLarge,
     Mismatch,
+    SumAboveOne,
     SumBelowOne,
 }
 
@@ -84,74 +80,6 @@ pub struct Refusal<'a> {
 
 fn is_one(found: &[u8], byte: u8) -> bool {
     found.len() == 1 && found[0] == byte
-}
-
-/// What a first token shows that is not the name of a format.
-fn of_format(found: &[u8]) -> Option<Mistake> {
-    if found.starts_with(b"\xef\xbb\xbf") {
-        return Some(Mistake::ByteOrderMark);
-    }
-    let has_mark = found.starts_with(b"\xff\xfe") || found.starts_with(b"\xfe\xff");
-    let has_zeros = found.starts_with(b"E\0F\0G") || found.starts_with(b"N\0F\0G");
-    let has_zeros_first = found.starts_with(b"\0E\0F\0G") || found.starts_with(b"\0N\0F\0G");
-    if has_mark || has_zeros || has_zeros_first {
-        return Some(Mistake::Utf16);
-    }
-    if found.starts_with(b"<?xml") {
-        return Some(Mistake::Xml);
-    }
-    if found == b"#AGG".as_slice() || found == b"#BAGG".as_slice() {
-        return Some(Mistake::ActionGraph);
-    }
-    of_small_letter(found, b"NFG").or(of_small_letter(found, b"EFG"))
-}
-
-/// What a token shows in which a capital of this word is a small letter.
-fn of_small_letter(found: &[u8], word: &[u8]) -> Option<Mistake> {
-    if found.eq_ignore_ascii_case(word) {
-        Some(Mistake::SmallLetter)
-    } else {
-        None
-    }
-}
-
-/// Whether a token begins with a character from U+2000 to U+203F whose last byte is in this range.
-fn begins_between(found: &[u8], first: u8, last: u8) -> bool {
-    found.len() > 2 && found.starts_with(b"\xe2\x80") && first <= found[2] && found[2] <= last
-}
-
-fn has_no_break_space(found: &[u8]) -> bool {
-    for end in 1..found.len() {
-        if found[end - 1] == 0xc2 && found[end] == 0xa0 {
-            return true;
-        }
-    }
-    false
-}
-
-/// What the spelling of a bare token shows, wherever it stands.
-fn of_spelling(found: &[u8]) -> Option<Mistake> {
-    let is_comment = found.starts_with(b"//")
-        || found.starts_with(b"/*")
-        || found.starts_with(b"#");
-    // U+2018 to U+201F, and U+00AB.
-    let is_quote = begins_between(found, 0x98, 0x9f)
-        || found.starts_with(b"\xc2\xab")
-        || found.starts_with(b"'")
-        || found.starts_with(b"`");
-    // U+2010 to U+2015, and U+2212.
-    let is_minus = begins_between(found, 0x90, 0x95) || found.starts_with(b"\xe2\x88\x92");
-    if is_comment {
-        Some(Mistake::OtherComment)
-    } else if is_quote {
-        Some(Mistake::OtherQuotes)
-    } else if is_minus {
-        Some(Mistake::OtherMinus)
-    } else if !found.starts_with(b"\"") && has_no_break_space(found) {
-        Some(Mistake::NoBreakSpace)
-    } else {
-        None
-    }
 }
 
 /// Whether a text has a quotation mark that a reader takes for its end: behind it stands what
@@ -177,31 +105,32 @@ fn has_brace(raw: &[u8]) -> bool {
     false
 }
 
-/// What the text shows that ends where the refused token begins, if there is one: tokens that were
-/// meant to be two have white space or a brace between them.
-fn of_text_before(refusal: &Refusal<'_>) -> Option<Mistake> {
-    let Some(
-        Token {
-            span,
-            kind: Kind::Text(label),
-        },
-    ) = refusal.context.last
-    else {
-        return None;
-    };
-    // Only a token that is joined to the end of a text can show that this goes on too far.
-    let is_joined = span.end == refusal.before.len();
+/// The text that ends where the refused token begins, if there is one: tokens that were meant to be
+/// two have white space or a brace between them.
+fn joined_text<'a>(refusal: &Refusal<'a>) -> Option<Token<'a>> {
+    let text = refusal.context.last?;
     let is_other = refusal.found.is_empty() || matches!(refusal.found[0], b'{' | b'}' | b',');
-    if !is_joined || is_other {
-        return None;
+    let is_joined = refusal.context.ends_in_text() && text.span.end == refusal.before.len();
+    if is_joined && !is_other {
+        Some(text)
+    } else {
+        None
     }
-    let raw = label.raw();
-    let begin = place_after(&refusal.before[..span.start.min(refusal.before.len())]);
-    let lines = place_after(raw).line;
-    if has_escaped_end(raw) {
-        Some(Mistake::EscapedQuote(begin))
-    } else if lines > 1 || has_brace(raw) {
-        Some(Mistake::OpenQuote(begin, lines))
+}
+
+/// What the text shows that a refused token is joined to. Only such a token can show that the text
+/// goes on too far.
+fn of_text_before(refusal: &Refusal<'_>) -> Option<Quote> {
+    let text = joined_text(refusal)?;
+    let (before, spelled) = refusal
+        .before
+        .split_at(text.span.start.min(refusal.before.len()));
+    let begin = place_after(before);
+    let lines = place_after(spelled).line;
+    if has_escaped_end(spelled) {
+        Some(Quote::Escaped(begin))
+    } else if lines > 1 || has_brace(spelled) {
+        Some(Quote::Open(begin, lines))
     } else {
         None
     }
@@ -317,7 +246,11 @@ fn of_text(refusal: &Refusal<'_>) -> Option<Mistake> {
 fn of_closing(refusal: &Refusal<'_>) -> Option<Mistake> {
     let context = refusal.context;
     if is_numeric(refusal.found) {
-        of_number_too_many(&context)
+        if context.ends_in_closing() {
+            Some(Mistake::NotClosed)
+        } else {
+            of_number_too_many(&context)
+        }
     } else if is_one(refusal.found, b'{') && !context.is_tree && context.open == 1 {
         Some(Mistake::NotOneListForEach)
     } else {
@@ -334,6 +267,19 @@ fn of_early_closing(what: What, refusal: &Refusal<'_>) -> Option<Mistake> {
     match what {
         What::Index => Some(Mistake::NotOneCount),
         _ => Some(Mistake::NotOneListForEach),
+    }
+}
+
+/// What stands in the place of an opening brace.
+fn of_opening(refusal: &Refusal<'_>) -> Option<Mistake> {
+    let context = refusal.context;
+    let is_in_outcomes = context.open == 1 && !context.is_in_strategies();
+    if is_numeric(refusal.found) && context.ends_in_closing() && is_in_outcomes {
+        Some(Mistake::NotClosed)
+    } else if joined_text(refusal).is_some() {
+        Some(Mistake::Quote(Quote::Inner))
+    } else {
+        of_early_closing(What::Opening, refusal)
     }
 }
 
@@ -360,9 +306,10 @@ fn of_expected(what: What, refusal: &Refusal<'_>) -> Option<Mistake> {
             Some(mistake) => Some(mistake),
             None => of_body(refusal),
         },
-        What::Opening => of_early_closing(what, refusal),
+        What::Opening => of_opening(refusal),
         What::Letter => {
-            of_small_letter(refusal.found, b"R").or(of_small_letter(refusal.found, b"D"))
+            let letter = of_small_letter(refusal.found, b"R");
+            Some(Mistake::Spelling(letter.or(of_small_letter(refusal.found, b"D"))?))
         }
         What::Text => of_text(refusal),
         What::Format | What::Version | What::Strategies => None,
@@ -383,7 +330,7 @@ fn is_of_form(why: Why) -> bool {
 }
 
 /// What the token itself shows.
-fn of_token(refusal: &Refusal<'_>) -> Option<Mistake> {
+fn of_token(refusal: &Refusal<'_>) -> Option<Spelling> {
     if refusal.why == Why::Expected(What::Format) {
         if let Some(mistake) = of_format(refusal.found) {
             return Some(mistake);
@@ -392,7 +339,7 @@ fn of_token(refusal: &Refusal<'_>) -> Option<Mistake> {
     match of_spelling(refusal.found) {
         Some(mistake) => Some(mistake),
         None if refusal.found.starts_with(b"/") && refusal.context.ends_in_value() => {
-            Some(Mistake::ApartFraction)
+            Some(Spelling::ApartFraction)
         }
         None => None,
     }
@@ -402,19 +349,20 @@ fn of_token(refusal: &Refusal<'_>) -> Option<Mistake> {
 pub fn mistake_of(refusal: &Refusal<'_>) -> Option<Mistake> {
     if is_of_form(refusal.why) {
         if let Some(mistake) = of_token(refusal) {
-            return Some(mistake);
+            return Some(Mistake::Spelling(mistake));
         }
         if let Some(mistake) = of_text_before(refusal) {
-            return Some(mistake);
+            return Some(Mistake::Quote(mistake));
         }
     }
     match refusal.why {
-        Why::Unterminated => Some(Mistake::LoneQuote),
+        Why::Unterminated => Some(Mistake::Quote(Quote::Lone)),
         Why::Expected(what) => of_expected(what, refusal),
-        Why::NotANumber => Some(Mistake::NotANumber),
-        Why::NumberTooLarge => Some(Mistake::NumberTooLarge),
+        Why::NotANumber => Some(Mistake::Spelling(Spelling::NotANumber)),
+        Why::NumberTooLarge => Some(Mistake::Spelling(Spelling::NumberTooLarge)),
         Why::NotDescribed if is_one(refusal.found, b'{') => Some(Mistake::NoName),
         Why::Mismatch => Some(Mistake::Mismatch),
+        Why::SumAboveOne => Some(Mistake::SumAboveOne),
         Why::SumBelowOne => Some(Mistake::SumBelowOne),
         _ => None,
     }

@@ -65,21 +65,6 @@ fn expectation(what: What, context: &Context<'_>) -> &'static str {
     }
 }
 
-/// The sentence of a fault in a number.
-fn about_number<'a>(why: Why, found: &'a [u8]) -> Sentence<'a> {
-    match why {
-        Why::NotANumber => Sentence::Naming("", found, " is not a number"),
-        Why::ZeroDenominator => Sentence::Plain("the denominator is zero"),
-        Why::NumberTooLarge => {
-            Sentence::Plain("this number is too large or has too many digits")
-        }
-        Why::NegativeProbability => Sentence::Plain("a probability cannot be negative"),
-        Why::SumAboveOne => Sentence::Plain("the probabilities add up to more than 1"),
-        Why::SumBelowOne => Sentence::Plain("the probabilities add up to less than 1"),
-        _ => Sentence::Plain("the sum of these probabilities cannot be worked out within 127 bits"),
-    }
-}
-
 /// The sentence of the first use of a number without a description.
 fn about_new<'a>(context: &Context<'a>) -> Sentence<'a> {
     let number = context.last_bare().unwrap_or(b"");
@@ -104,19 +89,39 @@ fn about_new<'a>(context: &Context<'a>) -> Sentence<'a> {
     }
 }
 
-/// The sentence of a fault in a use or a description; for any other, that of `about_number`.
-fn about_use<'a>(refusal: &Refusal<'a>) -> Sentence<'a> {
-    match refusal.why {
-        Why::UnknownPlayer => {
-            if refusal.found == b"p".as_slice() {
-                Sentence::Plain("this game has no players, so it cannot have a player's node")
-            } else {
-                Sentence::Naming("there is no player ", refusal.found, "")
-            }
+/// The sentence of a player who is not in the game.
+fn about_player<'a>(found: &'a [u8]) -> Sentence<'a> {
+    if found == b"p".as_slice() {
+        Sentence::Plain("this game has no players, so it cannot have a player's node")
+    } else {
+        Sentence::Naming("there is no player ", found, "")
+    }
+}
+
+/// The sentence of a fault in a file.
+fn sentence_of<'a>(why: Why, found: &'a [u8], context: &Context<'a>) -> Sentence<'a> {
+    match why {
+        Why::TooLong => Sentence::Plain(
+            "the file is larger than 16,777,216 bytes, the largest size that the program reads",
+        ),
+        Why::Unterminated => Sentence::Plain("this quotation mark is never closed"),
+        Why::Expected(what) => Sentence::Naming(expectation(what, context), found, ""),
+        Why::NotANumber => Sentence::Naming("", found, " is not a number"),
+        Why::ZeroDenominator => Sentence::Plain("the denominator is zero"),
+        Why::NumberTooLarge => {
+            Sentence::Plain("this number is too large or has too many digits")
         }
-        Why::NotDescribed => about_new(&refusal.context),
+        Why::BadIndex => Sentence::Naming(number_expectation(context.due()), found, ""),
+        Why::UnknownPlayer => about_player(found),
+        Why::NotDescribed => about_new(context),
         Why::Mismatch => Sentence::Plain(
             "this differs from the description given when the number was first used",
+        ),
+        Why::NegativeProbability => Sentence::Plain("a probability cannot be negative"),
+        Why::SumAboveOne => Sentence::Plain("the probabilities add up to more than 1"),
+        Why::SumBelowOne => Sentence::Plain("the probabilities add up to less than 1"),
+        Why::SumOverflow => Sentence::Plain(
+            "the sum of these probabilities cannot be worked out within 127 bits",
         ),
         Why::NoEntry => Sentence::Plain(
             "this list is empty: a player needs at least one strategy, an information set at least \
@@ -124,28 +129,13 @@ fn about_use<'a>(refusal: &Refusal<'a>) -> Sentence<'a> {
         ),
         Why::UnknownOutcome => Sentence::Naming(
             "there is no outcome ",
-            refusal.found,
+            found,
             ": the file describes fewer outcomes",
         ),
-        why => about_number(why, refusal.found),
-    }
-}
-
-/// The sentence of a fault in a file.
-fn sentence_of<'a>(refusal: &Refusal<'a>) -> Sentence<'a> {
-    let context = refusal.context;
-    match refusal.why {
-        Why::TooLong => Sentence::Plain(
-            "the file is larger than 16,777,216 bytes, the largest size that the program reads",
-        ),
-        Why::Unterminated => Sentence::Plain("this quotation mark is never closed"),
-        Why::Expected(what) => Sentence::Naming(expectation(what, &context), refusal.found, ""),
-        Why::BadIndex => { Sentence::Naming(number_expectation(context.due()), refusal.found, "") }
         Why::TooManyProfiles => {
             Sentence::Plain("the table would have more than 1,048,576 strategy profiles")
         }
         Why::Memory => Sentence::Plain("out of memory"),
-        _ => about_use(refusal),
     }
 }
 
@@ -174,7 +164,7 @@ pub fn push_words(text: &mut ShownText, words: &str) -> Result<(), AllocError>
 pub fn push_sentence(text: &mut ShownText, refusal: &Refusal<'_>) -> Result<(), AllocError>
     ensures { OnOk result (EndsLine text.new) }
 {
-    match sentence_of(refusal) {
+    match sentence_of(refusal.why, refusal.found, &refusal.context) {
         Sentence::Plain(words) => push_words(text, words),
         Sentence::Naming(before, named_token, after) => {
             let [opening, token, closing] = named(named_token);

@@ -29,6 +29,7 @@ impl Model for ShownText {
 }
 
 impl ShownText {
+    /// An empty text.
     // No clause: nothing is said of what is shown.
     pub fn new(alloc: Global) -> ShownText {
         ShownText {
@@ -36,6 +37,7 @@ impl ShownText {
         }
     }
 
+    /// Its bytes, in UTF-8.
     // No edit: it returns a part.
     pub fn as_bytes(&self) -> &[u8]
         ensures value { result.now ≡ self.now }
