@@ -71,6 +71,9 @@ class Scene:
     def follows(self, kind):
         return bool(self.before) and self.before[-1][0] == kind
 
+    def ends_in_closing(self):
+        return bool(self.before) and self.before[-1][1] == b"}"
+
     def ends_in_value(self):
         """Whether the last token is a payoff or a probability."""
         lists = {"payoffs", "flat_row", "new_actions", "known_actions"}
@@ -194,12 +197,12 @@ def of_closing(scene):
     if scene.is_numeric():
         if "payoffs" in scene.calls:
             return PAYOFFS
-        return NOT_CLOSED if scene.follows("}") else COUNTS
+        return NOT_CLOSED if scene.ends_in_closing() else COUNTS
     return LISTS if scene.token.kind == "{" and "payoffs" not in scene.calls else None
 
 
 def of_opening(scene):
-    if "outcome_rows" in scene.calls and scene.follows("}") and scene.is_numeric():
+    if "outcome_rows" in scene.calls and scene.ends_in_closing() and scene.is_numeric():
         return NOT_CLOSED
     if scene.is_joined():
         return 'a quotation mark inside a label is written \\"'
