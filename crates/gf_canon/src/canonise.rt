@@ -10,7 +10,7 @@ ghost use Rattle.gf_canon.specs.Judgement.{IsJudged, IsPlaced, IsRefusedWith};
 ghost use Rattle.gf_canon.specs.NamesAside.{IsTextBy, file_by};
 
 use crate::kind::{FileKind, kind_of};
-use crate::text::lines::Lines;
+use crate::text::lines::ToldText;
 use gf_nfg::{TextPieces, canonical_nfg};
 use gf_token::{Fault, Names};
 use gf_tree::tell_efg;
@@ -23,7 +23,7 @@ fn canonical_efg(alloc: Global, input: &[u8], names: Names) -> Result<TextPieces
     ensures judged { IfErr result (λ fault. IsExtensiveJudged fault.why input.now fault.span) }
 {
     // A canonical text is seldom longer than the file.
-    let mut lines = Lines::new(alloc, input.len(), names);
+    let mut lines = ToldText::new(alloc, input.len(), names);
     tell_efg(alloc, input, &mut lines)?;
     Ok(TextPieces::of(lines.text))
 }

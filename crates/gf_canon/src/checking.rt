@@ -35,8 +35,8 @@ impl<'a> Receive<'a> for Unkept {
 /// The kind of a game file, which is read whole. A tree is told to a receiver; nothing of a table
 /// is kept.
 ///
-/// Refused as by `canonical`; E19 if memory is refused for the descriptions of sets and outcomes,
-/// for the receiver, or for the labels of a table.
+/// Refused as by `canonical`; E19 if memory is refused for the players, the sets and the outcomes
+/// of a tree, for the receiver, or for the players and the counts or labels of a table.
 #[tactic(auto, using(crate::proofs::lemmas::files::Refused::refusals))]
 pub(crate) fn tell_file<'a, R: Receive<'a>>(
     alloc: Global,
@@ -64,8 +64,8 @@ pub(crate) fn tell_file<'a, R: Receive<'a>>(
 ///
 /// # Errors
 ///
-/// Those of `canonical`; E19 if memory is refused for the descriptions of sets and outcomes, or for
-/// the labels of a table.
+/// Those of `canonical`; E19 if memory is refused for the players, the sets and the outcomes of a
+/// tree, or for the players and the counts or labels of a table.
 // No edit: it passes on `tell_file`.
 pub fn check(alloc: Global, input: &[u8]) -> Result<FileKind, Fault>
     ensures kind { IfOk result (MeansFileOf input.now) }

@@ -23,7 +23,7 @@ fn numbers_to(alloc: Global, count: usize) -> Result<Vec<u32>, AllocError>
 {
     let mut numbers = Vec::with_capacity(alloc, count)?;
     for before in 0..count as u32 {
-        numbers.push(before + 1)?;
+        numbers.push_reserved(before + 1);
     }
     Ok(numbers)
 }

@@ -44,7 +44,7 @@ pub trait ReceivePairs {
     /// What it holds of the pairs that it was told.
     ghost holds: { Self → List NumberPair → Type 0 };
 
-    /// Takes the next pair.
+    /// Takes the next pair. An `Err` ends the telling.
     fn pair(&mut self, pair: NumberPair) -> Result<(), AllocError>
         ensures { OnOk result ((told : List NumberPair) → holds self.old told
             → holds self.new (told ++ pair ∷ [])) };
@@ -120,6 +120,7 @@ fn tell_pairs<P: ReceivePairs>(g: &Game<'_>, h: &Game<'_>, to: &mut P) -> Result
         → pairs ≡ renumbering_pairs s g.now) × P.holds to.new pairs) }
 {
     let players = g.players().len();
+    // Its clause says that it is a game.
     let _others = h.players();
     tell_player(g, h, 0, to)?;
     for before in 0..players {

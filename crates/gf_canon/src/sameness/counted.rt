@@ -1,13 +1,19 @@
-//! What counts of a tree, with its names or without.
+//! What counts of a heading and of a node, and when two are the same.
 
 ghost use Rattle.std.specs.Prelude.{◌≡◌, ◌↔◌, IsTrue, option_map};
-ghost use Rattle.gf_tree.specs.FileNodeOf.{file_node_of, outcome_use_of, set_use_of};
+ghost use Rattle.gf_token.specs.Label.{label_of};
+ghost use Rattle.gf_token.specs.NameBy.{name_by};
+ghost use Rattle.gf_tree.specs.FileNodeOf.{described_outcome, described_set, file_node_of};
+ghost use Rattle.gf_tree.specs.FileNodeOf.{outcome_use_of, set_use_of};
 ghost use Rattle.gf_tree.specs.Told.{heading_of, told_of};
-ghost use Rattle.gf_tree.specs.Undescribed.{undescribed, undescribed_use};
-ghost use Rattle.gf_canon.specs.inner.NamedBy.{heading_by, node_by};
+ghost use Rattle.gf_tree.specs.Unnamed.{use_by};
+ghost use Rattle.gf_canon.specs.inner.NamedBy.{heading_by, node_by, outcome_by, set_by};
 
-use gf_token::Names;
-use gf_tree::{FileNode, NumberedNode, OutcomeUse, SetUse, ToldHeading};
+use gf_token::{Label, Names};
+use gf_tree::{
+    FileNode, NumberedNode, OutcomeDescription, OutcomeUse, SetDescription, SetUse, ToldHeading,
+    same_actions,
+};
 
 /// What counts of a heading.
 pub(crate) fn counted_heading<'n, 'a>(
@@ -34,65 +40,116 @@ pub(crate) fn counted_node<'n, 'a>(node: FileNode<'n, 'a>, names: Names) -> File
     }
 }
 
-/// Whether two nodes are the same, even if they describe a set or an outcome. Most do not.
+/// Whether two names are the same, as far as they count.
+#[inline(always)]
+fn same_name(a: Label<'_>, b: Label<'_>, names: Names) -> bool
+    ensures { IsTrue result
+        ↔ (name_by names (label_of a.entry) ≡ name_by names (label_of b.entry)) }
+{
+    names == Names::Aside || a.raw() == b.raw()
+}
+
+/// Whether two descriptions of sets are the same, or both are absent.
+#[inline(always)]
+fn same_set_description(
+    a: Option<SetDescription<'_, '_>>,
+    b: Option<SetDescription<'_, '_>>,
+    names: Names,
+) -> bool
+    ensures { IsTrue result ↔ (option_map (set_by names) (option_map described_set a.entry)
+        ≡ option_map (set_by names) (option_map described_set b.entry)) }
+{
+    match (a, b) {
+        (Some(a), Some(b)) => {
+            same_name(a.name, b.name, names) && same_actions(a.actions, b.actions)
+        }
+        (None, None) => true,
+        _ => false,
+    }
+}
+
+/// Whether two descriptions of outcomes are the same, or both are absent.
+#[inline(always)]
+#[tactic(auto, using(crate::proofs::lemmas::sameness::NodesNamed::equal_payoffs))]
+fn same_outcome_description(
+    a: Option<OutcomeDescription<'_, '_>>,
+    b: Option<OutcomeDescription<'_, '_>>,
+    names: Names,
+) -> bool
+    ensures { IsTrue result ↔ (option_map (outcome_by names) (option_map described_outcome a.entry)
+        ≡ option_map (outcome_by names) (option_map described_outcome b.entry)) }
+{
+    match (a, b) {
+        (Some(a), Some(b)) => same_name(a.name, b.name, names) && a.payoffs == b.payoffs,
+        (None, None) => true,
+        _ => false,
+    }
+}
+
+/// Whether two uses of sets are the same, or both are absent.
+#[inline(always)]
+fn same_set(a: Option<SetUse<'_, '_>>, b: Option<SetUse<'_, '_>>, names: Names) -> bool
+    ensures { IsTrue result ↔ (option_map (use_by (set_by names)) (option_map set_use_of a.entry)
+        ≡ option_map (use_by (set_by names)) (option_map set_use_of b.entry)) }
+{
+    match (a, b) {
+        (Some(a), Some(b)) => {
+            a.player == b.player
+                && a.number == b.number
+                && same_set_description(a.description, b.description, names)
+        }
+        (None, None) => true,
+        _ => false,
+    }
+}
+
+/// Whether two uses of outcomes are the same, or both are absent.
+#[inline(always)]
+fn same_outcome(a: Option<OutcomeUse<'_, '_>>, b: Option<OutcomeUse<'_, '_>>, names: Names) -> bool
+    ensures { IsTrue result
+        ↔ (option_map (use_by (outcome_by names)) (option_map outcome_use_of a.entry)
+        ≡ option_map (use_by (outcome_by names)) (option_map outcome_use_of b.entry)) }
+{
+    match (a, b) {
+        (Some(a), Some(b)) => {
+            a.number == b.number && same_outcome_description(a.description, b.description, names)
+        }
+        (None, None) => true,
+        _ => false,
+    }
+}
+
+/// Whether two nodes are the same. Parts are compared one by one, since `==` would store both nodes
+/// in memory.
+#[inline(always)]
+#[tactic(auto, using(crate::proofs::lemmas::sameness::NodesNamed::by_parts))]
+fn same_parts(a: &FileNode<'_, '_>, b: &FileNode<'_, '_>, names: Names) -> bool
+    ensures { IsTrue result
+        ↔ (node_by names (file_node_of a.now) ≡ node_by names (file_node_of b.now)) }
+{
+    same_name(a.name, b.name, names)
+        && same_set(a.set, b.set, names)
+        && same_outcome(a.outcome, b.outcome, names)
+}
+
+/// Whether two nodes are the same, of which one describes something. Few nodes do.
 #[cold]
 #[inline(never)]
-#[tactic(auto, using(crate::proofs::Common::equal_nodes))]
 fn same_described(a: NumberedNode<'_, '_>, b: NumberedNode<'_, '_>, names: Names) -> bool
     ensures { IsTrue result
         ↔ (node_by names (told_of a.entry).node ≡ node_by names (told_of b.entry).node) }
 {
-    counted_node(a.file_node(), names) == counted_node(b.file_node(), names)
-}
-
-/// Whether two uses are of the same set, or both are absent.
-#[inline(always)]
-fn same_set(a: Option<SetUse<'_, '_>>, b: Option<SetUse<'_, '_>>) -> bool
-    ensures { IsTrue result ↔ (option_map undescribed_use (option_map set_use_of a.entry)
-        ≡ option_map undescribed_use (option_map set_use_of b.entry)) }
-{
-    match (a, b) {
-        (Some(a), Some(b)) => a.player == b.player && a.number == b.number,
-        (None, None) => true,
-        _ => false,
-    }
-}
-
-/// Whether two uses are of the same outcome, or both are absent.
-#[inline(always)]
-fn same_outcome(a: Option<OutcomeUse<'_, '_>>, b: Option<OutcomeUse<'_, '_>>) -> bool
-    ensures { IsTrue result ↔ (option_map undescribed_use (option_map outcome_use_of a.entry)
-        ≡ option_map undescribed_use (option_map outcome_use_of b.entry)) }
-{
-    match (a, b) {
-        (Some(a), Some(b)) => a.number == b.number,
-        (None, None) => true,
-        _ => false,
-    }
-}
-
-/// Whether two nodes are the same but for what they describe: this is all of most nodes, and is
-/// found out without making nodes of them in memory.
-#[inline(always)]
-#[tactic(auto, using(crate::proofs::lemmas::sameness::NodesNamed::by_names))]
-fn same_undescribed(a: &FileNode<'_, '_>, b: &FileNode<'_, '_>, names: Names) -> bool
-    ensures { IsTrue result ↔ (node_by names (undescribed (file_node_of a.now))
-        ≡ node_by names (undescribed (file_node_of b.now))) }
-{
-    (names == Names::Aside || a.name.raw() == b.name.raw())
-        && same_set(a.set, b.set)
-        && same_outcome(a.outcome, b.outcome)
+    same_parts(&a.file_node(), &b.file_node(), names)
 }
 
 /// Whether two nodes are the same.
 #[inline(always)]
-#[tactic(auto, using(crate::proofs::lemmas::sameness::NodesNamed::undescribed_twice))]
 pub(crate) fn same_node(a: NumberedNode<'_, '_>, b: NumberedNode<'_, '_>, names: Names) -> bool
     ensures { IsTrue result
         ↔ (node_by names (told_of a.entry).node ≡ node_by names (told_of b.entry).node) }
 {
     if a.describes_nothing() && b.describes_nothing() {
-        same_undescribed(&a.undescribed(), &b.undescribed(), names)
+        same_parts(&a.undescribed(), &b.undescribed(), names)
     } else {
         same_described(a, b, names)
     }

@@ -11,20 +11,20 @@ use std::alloc::{AllocError, Global};
 
 /// The text of a file that is being told.
 #[derive(Drop)]
-pub(crate) struct Lines {
+pub(crate) struct ToldText {
     pub(crate) text: Vec<u8>,
     /// How many bytes the text is likely to have.
     room: usize,
     names: Names,
 }
 
-impl Lines {
+impl ToldText {
     /// No lines yet, of a text that is likely to have this many bytes.
-    pub(crate) fn new(alloc: Global, room: usize, names: Names) -> Lines
+    pub(crate) fn new(alloc: Global, room: usize, names: Names) -> ToldText
         ensures text { result.text.items ≡ [] }
         ensures names { result.names ≡ names }
     {
-        Lines {
+        ToldText {
             text: Vec::new(alloc),
             room,
             names,
@@ -32,7 +32,7 @@ impl Lines {
     }
 }
 
-impl<'a> Receive<'a> for Lines {
+impl<'a> Receive<'a> for ToldText {
     ghost use Rattle.std.specs.Prelude.{◌≡◌, []};
     ghost use Rattle.gf_canon.specs.inner.TextParts.{told_text};
 

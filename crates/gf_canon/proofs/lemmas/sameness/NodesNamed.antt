@@ -10,21 +10,21 @@ use Rattle.gf_canon.proofs.lemmas.sameness.Unnamed.{unnamed_outcome_at, unnamed_
 use Rattle.gf_canon.proofs.lemmas.sameness.Unnamed.{unnamed_outcomes, unnamed_set_at, unnamed_sets}
 use Rattle.gf_canon.proofs.lemmas.sameness.Unnamed.{keys_still}
 use Rattle.gf_canon.proofs.lemmas.texts.FileOf.{file_nodes_are, entries_after}
-use Rattle.gf_tree.specs.Undescribed.{undescribed}
+use Rattle.gf_fraction.proofs.Offered.{Decides-ratio}
+use Rattle.gf_token.specs.NameBy.{name_by}
+use Rattle.std.proofs.lemmas.Slice.Eq.{slice_eq-Decides}
+use Rattle.gf_canon.specs.inner.NamedBy.{outcome_by, set_by}
 
--- ---- nodes that describe nothing
+-- ---- nodes by their parts
 
-pub undescribed_twice : (n : FileNode) → undescribed (undescribed n) ≡ undescribed n
-undescribed_twice n = grind arith
+pub by_parts : (names : Names) (n : FileNode) → node_by names n ≡ record {
+  name = name_by names n.name;
+  set = option_map (use_by (set_by names)) n.set;
+  outcome = option_map (use_by (outcome_by names)) n.outcome;
+}
+by_parts names n = grind arith
 
-abbrev by_name : Names → List ℕ → List ℕ
-by_name Kept name = name
-by_name Aside name = []
-
--- what counts of a node that describes nothing
-pub by_names : (names : Names) (n : FileNode) → node_by names (undescribed n)
-    ≡ record (undescribed n) { name = by_name names n.name }
-by_names names n = grind arith
+pub ruleset equal_payoffs = (slice_eq-Decides, Decides-ratio)
 
 -- ---- without names
 
