@@ -31,7 +31,7 @@ impl<'a> Heading<'a> {
     pub(crate) fn new(alloc: Global) -> Heading<'a>
         ensures { content_in result ≡ nothing }
     {
-        let empty = Label::new(&[]).unwrap();
+        let empty = Label::of_spelling(b"");
         Heading {
             title: empty,
             comment: empty,

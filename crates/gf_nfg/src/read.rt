@@ -45,7 +45,8 @@ pub(crate) fn tell_nfg<'a, R: Receive<'a>>(
 ///
 /// # Errors
 ///
-/// Those of `read_nfg`; E19 if memory for its labels is refused.
+/// Those of `read_nfg`; E19 if memory is refused for its players, or for the counts or labels of
+/// their strategies.
 pub fn check_nfg(alloc: Global, input: &[u8]) -> Result<(), Fault>
     ensures spelled { OnOk result ((t : Table) × SpellsTable input.now t × IsWithinLimit t) }
     ensures only { IfErr result (λ fault. (t : Table) → SpellsTable input.now t → IsWithinLimit t
@@ -93,6 +94,10 @@ pub fn read_nfg(alloc: Global, input: &[u8]) -> Result<Table, Fault>
 }
 
 /// Reads a strategic file as `read_nfg` does, into a table that is only compared.
+///
+/// # Errors
+///
+/// Those of `read_nfg`.
 pub fn list_nfg(alloc: Global, input: &[u8]) -> Result<ListedTable, Fault>
     ensures spelled { IfOk result (λ t. SpellsTable input.now t) }
     ensures within { IfOk result (λ t. IsWithinLimit t) }

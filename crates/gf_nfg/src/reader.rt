@@ -66,11 +66,7 @@ impl<'a> Reader<'a> {
     fn expected(&self, due: u128) -> usize
         ensures { result ≡ min due self.now.room }
     {
-        if due < self.room as u128 {
-            due as usize
-        } else {
-            self.room
-        }
+        due.min(self.room as u128) as usize
     }
 
     /// How many payoffs the players have at all profiles together.

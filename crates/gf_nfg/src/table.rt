@@ -112,6 +112,10 @@ impl Table {
 
     /// The table of these parts, as `new` makes it. The payoffs are not copied, nor are the labels
     /// of the strategies if there is only one player.
+    ///
+    /// # Errors
+    ///
+    /// `AllocError` if memory is refused.
     // No edit: `Table::new` has one, and proofs of gf_form rely on this.
     #[tactic(auto, using(crate::proofs::lemmas::tables::Made::made_of_labels))]
     pub fn with_labels(
@@ -267,9 +271,6 @@ impl Table {
             (¬ (IsProfile (map length self.now.strategies) profile.now))
             (λ row. PaysAt self.now profile.now row.now) }
     {
-        match place_of(&self.frame, profile) {
-            Some(place) => Some(self.payoffs.row(place)),
-            None => None,
-        }
+        Some(self.payoffs.row(place_of(&self.frame, profile)?))
     }
 }

@@ -131,7 +131,7 @@ impl<'a> Reader<'a> {
         if players == 0 {
             return Ok(());
         }
-        if let Some(_) = self.tokens.opening() {
+        if self.tokens.opening().is_some() {
             self.list()?;
             return self.lists(players - 1);
         }

@@ -129,7 +129,7 @@ impl Labels {
     {
         self.ends.reserve(1)?;
         self.bytes.extend_from_slice(label.raw())?;
-        self.ends.push(self.bytes.len())?;
+        self.ends.push_reserved(self.bytes.len());
         Ok(())
     }
 
@@ -151,7 +151,7 @@ impl Labels {
             self.bytes.truncate(start);
             return written;
         }
-        self.ends.push(self.bytes.len())?;
+        self.ends.push_reserved(self.bytes.len());
         Ok(())
     }
 

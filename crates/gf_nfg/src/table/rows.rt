@@ -98,13 +98,13 @@ impl Rows {
         players: usize,
         profiles: u32,
         payoffs: Vec<Fraction>,
-        choices: Vec<u32>,
+        numbers: Vec<u32>,
     ) -> Result<Rows, AllocError>
-        requires { HasRows players profiles payoffs.items choices.items }
+        requires { HasRows players profiles payoffs.items numbers.items }
         ensures { IfOk result
-            (λ rows. rows ≡ kept_rows players profiles payoffs.items choices.items) }
+            (λ rows. rows ≡ kept_rows players profiles payoffs.items numbers.items) }
     {
-        let chosen = choices.len();
+        let chosen = numbers.len();
         if players == 0 || chosen == 0 {
             let rows = NumberedRows {
                 players,
@@ -127,7 +127,7 @@ impl Rows {
         Ok(Rows {
             profiles,
             rows,
-            numbers: choices,
+            numbers,
         })
     }
 
@@ -150,7 +150,8 @@ impl Rows {
         }
     }
 
-    /// The rows and the number of one at each profile, if profiles may share them.
+    /// The rows and the number of one at each profile, if profiles may share them; otherwise the
+    /// rows come back as they were.
     #[tactic(auto, using(crate::proofs::lemmas::tables::Rows::numbers_chosen))]
     pub(crate) fn into_shared(self) -> Result<(NumberedRows, Vec<u32>), Rows>
         ensures { MatchResult result (λ s. AreShared self s.0 s.1.items) (λ rows. rows ≡ self) }

@@ -122,10 +122,7 @@ impl Lines {
     {
         let mut len: usize = 0;
         for number in numbers {
-            match len.checked_add(self.line(*number as usize).len()) {
-                Some(more) => len = more,
-                None => return None,
-            }
+            len = len.checked_add(self.line(*number as usize).len())?;
         }
         Some(len)
     }
@@ -223,6 +220,7 @@ pub(crate) fn write_rows(rows: &Rows, out: &mut Vec<u8>) -> Result<(), AllocErro
     ensures kept { OnErr result (Keeps out.old.items out.new.items) }
 {
     match rows.shared() {
+        // With more outcomes than profiles, lines would be made that no profile has.
         Some((numbered, numbers)) if numbered.len() <= numbers.len() => {
             return write_shared(numbered, numbers, out);
         }

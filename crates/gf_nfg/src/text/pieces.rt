@@ -10,9 +10,9 @@ ghost use Rattle.gf_nfg.specs.inner.TextParts.{heading_text, row_text};
 
 use crate::table::frame::Frame;
 use crate::table::rows::Rows;
-use crate::text::lines::{Lines, write_rows};
+use crate::text::lines::{Lines, write_lines};
 use crate::text::lists::ListsWritten;
-use crate::text::rest::{MOST, PIECE, Rest};
+use crate::text::rest::{PAYOFF_ROOM, PIECE, Rest};
 use crate::text::write::{write_ending, write_front};
 use gf_token::Names;
 use std::alloc::{AllocError, Global};
@@ -93,7 +93,7 @@ impl TextPieces {
                 })
             }
             Err(rows) => {
-                write_rows(&rows, &mut piece)?;
+                write_lines(&rows, 0, usize::MAX, &mut piece)?;
                 Ok(TextPieces::of(piece))
             }
         }
@@ -115,7 +115,7 @@ impl TextPieces {
         write_front(&frame, Names::Kept, &mut piece)?;
         let mut ending = Vec::new(alloc);
         write_ending(&frame, Names::Kept, &mut ending)?;
-        let line = frame.players().saturating_mul(MOST);
+        let line = frame.players().saturating_mul(PAYOFF_ROOM);
         let strategies = frame.into_lists();
         let longest = strategies.size().max(ending.len()).max(line);
         piece.reserve_exact(longest.saturating_add(PIECE + 3))?;
@@ -155,7 +155,8 @@ impl TextPieces {
         if self.begun { &self.piece } else { &[] }
     }
 
-    /// All that is still to come, as one vector, if room for it was made.
+    /// All that is still to come, as one vector. `None` for a text from `text_of` whose table has
+    /// no shared rows.
     // No edit: it passes on `Lines::append`.
     pub fn into_vec(self) -> Option<Vec<u8>>
         ensures { MatchOption result (self.has_room ≡ false) (λ all. all.items ≡ self.rest) }

@@ -8,11 +8,12 @@ use crate::table::strategies::StrategyLists;
 use crate::text::lines::{Lines, write_lines};
 use crate::text::lists::{ListsWritten, write_lists};
 
-/// How many bytes a piece has, or up to a line more; the last one may have fewer.
+/// A piece ends as soon as it has this many bytes: with the label, the ending or the line that
+/// makes them up. A piece that begins with a text may be longer; the last one may be shorter.
 pub(crate) const PIECE: usize = 65_536;
 
-/// The most bytes that a payoff takes, with the space or line feed after it.
-pub(crate) const MOST: usize = 81;
+/// 80 bytes for `Fraction::write`, and the space or line feed after it.
+pub(crate) const PAYOFF_ROOM: usize = 81;
 
 /// What is still to come of a text.
 #[derive(Drop)]

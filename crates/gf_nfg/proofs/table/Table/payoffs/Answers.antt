@@ -8,7 +8,7 @@ place_of-requires-clause-within c = search (rules, entries_counted)
 
 pub row-requires : goal.row-requires
 row-requires c = place_there _ c.self.inside.payoffs c.args.profile.now _ c.self.invariant
-    c.in-Some.ensures
+    c.in_ok-place_of.ensures
 
-pub returns-in-Some : goal.returns-in-Some
-returns-in-Some c = grind (arith, pays_there)
+pub returns : goal.returns
+returns c = grind (arith, pays_there)

@@ -11,7 +11,7 @@ pub returns-then-players-eq0 : goal.returns-then-players-eq0
 returns-then-players-eq0 c = grind (arith, in_turn)
 
 made : (c : goal.After-len) → AreOutcomes c.args.players c.args.profiles c.args.payoffs.items
-    c.args.choices.items (c.len.result / c.args.players)
+    c.args.numbers.items (c.len.result / c.args.players)
 made c = grind (arith, by_outcomes)
 
 paid : (c : goal.After-len) → c.in_ok-vec.field-0.items ≡ no_pay c.args.players
