@@ -132,7 +132,7 @@ fn same_parts(a: &FileNode<'_, '_>, b: &FileNode<'_, '_>, names: Names) -> bool
         && same_outcome(a.outcome, b.outcome, names)
 }
 
-/// Whether two nodes are the same, of which one describes something. Few nodes do.
+/// Whether two nodes are the same, of which one describes something. In most files, few nodes do.
 #[cold]
 #[inline(never)]
 fn same_described(a: NumberedNode<'_, '_>, b: NumberedNode<'_, '_>, names: Names) -> bool

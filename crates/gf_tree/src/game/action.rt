@@ -34,6 +34,7 @@ fn same_action(a: &Action<'_>, b: &Action<'_>) -> bool
 }
 
 /// Whether two lists of actions are the same: labels by their bytes, probabilities by their values.
+#[inline(always)]
 pub fn same_actions(a: &[Action<'_>], b: &[Action<'_>]) -> bool
     ensures { IsTrue result ↔ (actions_of a.now ≡ actions_of b.now) }
 {
