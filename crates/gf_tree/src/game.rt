@@ -154,10 +154,8 @@ impl<'a> Game<'a> {
             ≡ outcome_at self.now number }
     {
         let outcomes = &self.parts.outcomes;
-        match outcomes.find(number) {
-            Some(place) => Some((outcomes.name(place), outcomes.payoffs(place))),
-            None => None,
-        }
+        let place = outcomes.find(number)?;
+        Some((outcomes.name(place), outcomes.payoffs(place)))
     }
 
     /// How many sets a player has, where chance is player 0; 0 if there is no such player.
@@ -279,11 +277,7 @@ impl<'a> Game<'a> {
         ensures mover { IsMover self.now (root_node (subtree_at self.now.tree at)).set result }
         ensures is_game { IsGame self.now }
     {
-        let set = self.kept(at).set;
-        if set == 0 {
-            return None;
-        }
-        let place = set - 1;
+        let place = self.kept(at).set.checked_sub(1)?;
         let (player, _) = self.parts.sets.key(place);
         Some((player, self.parts.sets.first_use_number(place)))
     }

@@ -77,10 +77,8 @@ impl<'a> Outcomes<'a> {
     pub(crate) fn find(&self, number: u32) -> Option<u32>
         ensures { result ≡ position (nat_eq number) (map (λ o. o.key) self.now.known) }
     {
-        match find(&self.entries, &number, number.wrapping_sub(1) as usize) {
-            Some(place) => Some(place as u32),
-            None => None,
-        }
+        let place = find(&self.entries, &number, number.wrapping_sub(1) as usize)?;
+        Some(place as u32)
     }
 
     /// How many outcomes there are.

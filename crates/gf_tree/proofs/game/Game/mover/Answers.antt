@@ -1,9 +1,6 @@
 use Rattle.gf_tree.proofs.Common.{arith}
-use Rattle.gf_tree.proofs.lemmas.stores.NodeParts.{is_mover, no_set, set_below}
+use Rattle.gf_tree.proofs.lemmas.stores.NodeParts.{is_mover, set_below}
 use Rattle.gf_tree.proofs.game.Game.mover.Goals as goal
-
-pub returns-then-set-eq0-clause-mover : goal.returns-then-set-eq0-clause-mover
-returns-then-set-eq0-clause-mover c = no_set _ _ _ c.kept-set.ensures.kept c.if-set-eq0.true
 
 pub key-player-requires : goal.key-player-requires
 key-player-requires c = grind (arith, set_below)
