@@ -6,32 +6,14 @@ ghost use Rattle.hex.specs.Hex.{encode_lower};
 ghost use Rattle.sha2.specs.Sha256.{sha256};
 ghost use Rattle.gf_canon.specs.NamesAside.{IsTextBy};
 ghost use Rattle.gf_calls.specs.Numbers.{names_by};
-ghost use Rattle.gf_calls.specs.Written.{IsHashBy, IsWritten, IsWrittenBy};
+ghost use Rattle.gf_calls.specs.Written.{IsHashBy, IsWrittenBy};
 
 use crate::fault::{FaultNumbers, tell};
 use crate::flags::names_by;
 use crate::handing::hand_out;
 use crate::status::Status;
-use gf_canon::{Names, TextPieces, canonical_by, canonical_text, sha256_of};
+use gf_canon::{TextPieces, canonical_by, canonical_text, sha256_of};
 use std::alloc::{AllocError, Global};
-
-fn write_text(
-    alloc: Global,
-    input: &[u8],
-    names: Names,
-    out: &mut [u8],
-    needed: &mut usize,
-    fault: &mut FaultNumbers,
-) -> Status
-    ensures { IsWritten (IsTextBy names input.now) input.now
-        (record { out = out.old; needed = needed.old; numbers = fault.old })
-        (record { out = out.new; needed = needed.new; numbers = fault.new }) result }
-{
-    match canonical_by(alloc, input, names) {
-        Ok(text) => hand_out(&text, out, needed),
-        Err(refusal) => tell(refusal, fault),
-    }
-}
 
 /// Writes the canonical text of a file, with names as the flags say. Answers as the head of this
 /// crate says.
@@ -47,9 +29,12 @@ pub fn write_canonical(
         (record { out = out.old; needed = needed.old; numbers = fault.old })
         (record { out = out.new; needed = needed.new; numbers = fault.new }) result }
 {
-    match names_by(flags) {
-        Some(names) => write_text(alloc, input, names, out, needed, fault),
-        None => Status::Misuse,
+    let Some(names) = names_by(flags) else {
+        return Status::Misuse;
+    };
+    match canonical_by(alloc, input, names) {
+        Ok(text) => hand_out(&text, out, needed),
+        Err(refusal) => tell(refusal, fault),
     }
 }
 
@@ -58,28 +43,6 @@ fn hash_of(alloc: Global, text: TextPieces) -> Result<String, AllocError>
     ensures { IfOk result (λ hash. string_bytes hash ≡ encode_lower (sha256 text.rest)) }
 {
     hex::encode(alloc, sha256_of(text))
-}
-
-fn write_hash_by(
-    alloc: Global,
-    input: &[u8],
-    names: Names,
-    out: &mut [u8],
-    needed: &mut usize,
-    fault: &mut FaultNumbers,
-) -> Status
-    ensures { IsWritten (IsHashBy names input.now) input.now
-        (record { out = out.old; needed = needed.old; numbers = fault.old })
-        (record { out = out.new; needed = needed.new; numbers = fault.new }) result }
-{
-    let text = match canonical_text(alloc, input, names) {
-        Ok(text) => text,
-        Err(refusal) => return tell(refusal, fault),
-    };
-    match hash_of(alloc, text) {
-        Ok(hash) => hand_out(hash.as_bytes(), out, needed),
-        Err(_) => Status::OutOfMemory,
-    }
 }
 
 /// Writes the hash of a file, with names as the flags say. Answers as the head of this crate says.
@@ -95,8 +58,15 @@ pub fn write_hash(
         (record { out = out.old; needed = needed.old; numbers = fault.old })
         (record { out = out.new; needed = needed.new; numbers = fault.new }) result }
 {
-    match names_by(flags) {
-        Some(names) => write_hash_by(alloc, input, names, out, needed, fault),
-        None => Status::Misuse,
+    let Some(names) = names_by(flags) else {
+        return Status::Misuse;
+    };
+    let text = match canonical_text(alloc, input, names) {
+        Ok(text) => text,
+        Err(refusal) => return tell(refusal, fault),
+    };
+    match hash_of(alloc, text) {
+        Ok(hash) => hand_out(hash.as_bytes(), out, needed),
+        Err(_) => Status::OutOfMemory,
     }
 }

@@ -2,14 +2,14 @@
 
 ghost use Rattle.std.specs.Prelude.{◌≡◌, ℕ, List};
 ghost use Rattle.gf_canon.specs.Sameness.{AreRefusedWith};
-ghost use Rattle.gf_calls.specs.Compared.{IsCompared, IsComparedBy, same_status};
+ghost use Rattle.gf_calls.specs.Compared.{IsComparedBy, same_status};
 ghost use Rattle.gf_calls.specs.Numbers.{names_by};
 ghost use Rattle.gf_calls.specs.Refused.{AreRefusedAs};
 
 use crate::fault::{FaultNumbers, tell};
 use crate::flags::names_by;
 use crate::status::Status;
-use gf_canon::{Names, SameFault, same_by};
+use gf_canon::{SameFault, same_by};
 use std::alloc::Global;
 
 fn same_status(same: bool) -> Status
@@ -42,23 +42,6 @@ pub fn tell_of_two(refusal: SameFault, fault: &mut FaultNumbers, which: &mut u32
     }
 }
 
-fn compare_by(
-    alloc: Global,
-    a: &[u8],
-    b: &[u8],
-    names: Names,
-    fault: &mut FaultNumbers,
-    which: &mut u32,
-) -> Status
-    ensures { IsCompared names a.now b.now (record { which = which.old; numbers = fault.old })
-        (record { which = which.new; numbers = fault.new }) result }
-{
-    match same_by(alloc, a, b, names) {
-        Ok(same) => same_status(same),
-        Err(refusal) => tell_of_two(refusal, fault, which),
-    }
-}
-
 /// Compares two files, with names as the flags say. Answers as the head of this crate says.
 pub fn compare(
     alloc: Global,
@@ -72,8 +55,11 @@ pub fn compare(
         (record { which = which.old; numbers = fault.old })
         (record { which = which.new; numbers = fault.new }) result }
 {
-    match names_by(flags) {
-        Some(names) => compare_by(alloc, a, b, names, fault, which),
-        None => Status::Misuse,
+    let Some(names) = names_by(flags) else {
+        return Status::Misuse;
+    };
+    match same_by(alloc, a, b, names) {
+        Ok(same) => same_status(same),
+        Err(refusal) => tell_of_two(refusal, fault, which),
     }
 }

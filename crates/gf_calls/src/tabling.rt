@@ -19,10 +19,10 @@ use gf_tree::Game;
 use std::alloc::{AllocError, Global};
 
 /// The most players that a table can have.
-const MOST_PLAYERS: usize = 4294967295;
+const MOST_PLAYERS: usize = u32::MAX as usize;
 
 /// The canonical text of a table.
-fn text_of(alloc: Global, table: &Table) -> Result<Vec<u8>, AllocError>
+fn whole_text(alloc: Global, table: &Table) -> Result<Vec<u8>, AllocError>
     ensures { IfOk result (λ text. text.items ≡ table_text table.now) }
 {
     let mut text = Vec::new(alloc);
@@ -49,7 +49,7 @@ fn tell_form(fault: FormFault, profile: &mut u64) -> Status
 fn write_made(alloc: Global, table: &Table, out: &mut [u8], needed: &mut usize) -> Status
     ensures { IsMadeText table.now out.old out.new needed.old needed.new result }
 {
-    match text_of(alloc, table) {
+    match whole_text(alloc, table) {
         Ok(text) => hand_out(&text, out, needed),
         Err(_) => Status::OutOfMemory,
     }
@@ -98,26 +98,6 @@ fn write_meaning(
     }
 }
 
-fn write_by(
-    alloc: Global,
-    input: &[u8],
-    strategies: Strategies,
-    out: &mut [u8],
-    needed: &mut usize,
-    fault: &mut FaultNumbers,
-    profile: &mut u64,
-) -> Status
-    ensures { IsTabled strategies input.now
-        (record { out = out.old; needed = needed.old; numbers = fault.old; profile = profile.old })
-        (record { out = out.new; needed = needed.new; numbers = fault.new; profile = profile.new })
-        result }
-{
-    match read_file(alloc, input) {
-        Ok(meaning) => write_meaning(alloc, &meaning, strategies, out, needed, profile),
-        Err(refusal) => tell(refusal, fault),
-    }
-}
-
 /// Writes a file as a table, with strategies as the flags say. Answers as the head of this crate
 /// says.
 pub fn write_table(
@@ -134,8 +114,11 @@ pub fn write_table(
         (record { out = out.new; needed = needed.new; numbers = fault.new; profile = profile.new })
         result }
 {
-    match strategies_by(flags) {
-        Some(strategies) => write_by(alloc, input, strategies, out, needed, fault, profile),
-        None => Status::Misuse,
+    let Some(strategies) = strategies_by(flags) else {
+        return Status::Misuse;
+    };
+    match read_file(alloc, input) {
+        Ok(meaning) => write_meaning(alloc, &meaning, strategies, out, needed, profile),
+        Err(refusal) => tell(refusal, fault),
     }
 }
