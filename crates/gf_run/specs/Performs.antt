@@ -13,8 +13,7 @@ use Rattle.gf_words.specs.declared.job.Job.{Job}
 use Rattle.gf_words.specs.declared.job.LineEnd.{LineEnd}
 use Rattle.gf_words.specs.declared.job.Paths.{Paths}
 use Rattle.gf_run.specs.Duplicates.{are_apart, duplicates, groups_text, HashedFile}
-use Rattle.gf_run.specs.Faults.{answer_status, fault_line, is_of_second, status_of}
-use Rattle.gf_run.specs.FormText.{IsRefusal}
+use Rattle.gf_run.specs.Faults.{IsRefusal, answer_status, fault_line, is_of_second, status_of}
 use Rattle.gf_run.specs.Transfers.{IsNotRead, IsReadWhole}
 use Rattle.gf_run.specs.LedTo.{AreFilesOf}
 use Rattle.gf_run.specs.LineText.{IsOtherText}
@@ -26,13 +25,13 @@ use Rattle.gf_run.specs.Run.{IsAnswerBy, Reads, ReadsHash, RunsCanonBy, RunsChec
 use Rattle.gf_run.specs.Run.{RunsTwo, Writes}
 use Rattle.gf_run.specs.Streams.{Stream}
 use Rattle.gf_run.specs.Wrapped.{bytes_kept, kept_at_first, kept_reader, source_of}
-use Rattle.gf_run.specs.declared.collections.collection.Task.{Task}
 use Rattle.gf_run.specs.declared.collections.file.CollectionFile.{CollectionFile}
 use Rattle.gf_run.specs.declared.collections.folders.Repeats.{Repeats}
 use Rattle.gf_run.specs.declared.collections.line.FileLine.{FileLine}
 use Rattle.gf_run.specs.declared.explain.Failed.{Failed}
 use Rattle.gf_run.specs.declared.fault.RunFault.{RunFault}
 use Rattle.gf_run.specs.declared.fault.Which.{Which}
+use Rattle.gf_run.specs.declared.jobs.many_files.Task.{Task}
 use Rattle.gf_run.specs.declared.jobs.one_file.OneTask.{OneTask}
 use Rattle.gf_run.specs.declared.jobs.session.Session.{Session}
 use Rattle.gf_run.specs.declared.opening.inputs.Unreplaced.{Unreplaced}

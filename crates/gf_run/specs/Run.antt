@@ -6,7 +6,8 @@ use Rattle.gf_canon.specs.SameBy.{SameBy}
 use Rattle.gf_canon.specs.declared.kind.FileKind.{FileKind}
 use Rattle.gf_token.specs.declared.names.Names.{Names}
 use Rattle.gf_form.specs.declared.forms.Strategies.{Strategies}
-use Rattle.gf_run.specs.FormText.{IsFaultOfBytes, IsFaultOfFile, IsFaultOfFiles, IsFormText, IsRefusal}
+use Rattle.gf_run.specs.Faults.{IsFaultOfBytes, IsFaultOfFile, IsFaultOfFiles, IsRefusal}
+use Rattle.gf_run.specs.FormText.{IsFormText}
 use Rattle.gf_run.specs.Transfers.{IsNotRead, IsReadWhole, IsWriteFault, IsWritten}
 use Rattle.gf_run.specs.LineText.{IsHashOf, IsKindLine, IsLineOf}
 use Rattle.gf_run.specs.SameText.{IsAnswer, IsLine, IsLineAndMap}

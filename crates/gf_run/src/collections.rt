@@ -1,6 +1,5 @@
 //! The runs over many files: which files they are, and what is done with them.
 
-pub mod collection;
 pub mod duplicates;
 pub mod file;
 pub mod folders;

@@ -2,6 +2,7 @@
 
 pub mod ending;
 pub mod job;
+pub mod many_files;
 pub mod one_file;
 pub mod run;
 pub mod run_of_two;

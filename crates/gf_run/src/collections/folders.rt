@@ -63,8 +63,8 @@ impl KeptFiles {
         }
     }
 
-    /// Whether a file that a folder has comes for the first time, unless that does not matter.
-    fn is_new(&mut self, file: Identity) -> Result<bool, AllocError>
+    /// Notes a file, and returns whether it comes for the first time, unless that does not matter.
+    fn note(&mut self, file: Identity) -> Result<bool, AllocError>
         ensures repeats { self.new.repeats ≡ self.old.repeats }
         ensures files { self.new.files ≡ self.old.files }
         ensures seen { IfOk result (λ is_new. is_new ≡ false
@@ -190,11 +190,11 @@ struct Search {
     has_games: bool,
 }
 
-/// Whether a file that waited is kept: it is a game file, was named itself, or has a name that is
-/// not UTF-8. A pipe, a socket or a device is kept only if it was named. The folder at its path is
-/// opened, unless it was visited already; one that cannot be read whole is kept as a file, which
-/// cannot be read either.
-fn is_kept<R: Files + AllocGlobal>(
+/// Looks at what waited, opens it if it is a folder, and returns whether it is kept: it is a game file,
+/// was named itself, or has a name that is not UTF-8. A pipe, a socket or a device is kept only if it
+/// was named. No folder is opened again; one that cannot be read whole is kept as a file, which cannot
+/// be read either.
+fn visit<R: Files + AllocGlobal>(
     rt: &R,
     file: &CollectionFile,
     is_named: bool,
@@ -223,7 +223,7 @@ fn is_kept<R: Files + AllocGlobal>(
     }
     if found.is_file() && may_be_game {
         search.has_games = true;
-        return Ok(kept.is_new(identity)? || is_named);
+        return Ok(kept.note(identity)? || is_named);
     }
     Ok(is_named)
 }
@@ -250,7 +250,7 @@ fn push_below<R: Files + AllocGlobal>(
         let Some(file) = search.waiting.pop() else {
             break;
         };
-        if is_kept(rt, &file, turn == 0, &mut search, kept)? {
+        if visit(rt, &file, turn == 0, &mut search, kept)? {
             search.has_games = true;
             kept.files.push(file)?;
         }

@@ -2,7 +2,7 @@
 
 ghost use Rattle.std.specs.Prelude.{◌≡◌, IfOk, MatchResult};
 ghost use Rattle.gf_run.specs.LineText.{IsHashOf, IsLineOf, hash_line};
-ghost use Rattle.gf_run.specs.FormText.{IsFaultOfFile, IsRefusal};
+ghost use Rattle.gf_run.specs.Faults.{IsFaultOfFile, IsRefusal};
 ghost use Rattle.gf_run.specs.Run.{RunsLine};
 
 use crate::fault::{RunFault, Which};

@@ -40,10 +40,7 @@ fn replace<I: Inputs>(inputs: &mut I, file: &CollectionFile, text: TextPieces) -
         inputs.old inputs.new }
 {
     match file {
-        CollectionFile::Input(Input::File(name)) => match inputs.replace(name.as_str(), text) {
-            Ok(()) => Ok(()),
-            Err(why) => Err(Failed::from(why)),
-        },
+        CollectionFile::Input(Input::File(name)) => Ok(inputs.replace(name.as_str(), text)?),
         _ => Err(Failed::from(RunFault::Write)),
     }
 }

@@ -2,9 +2,9 @@
 
 ghost use Rattle.gf_run.specs.Performs.{IsSame, Performs, world_of};
 
-use crate::collections::collection::Task;
 use crate::collections::line::FileLine;
 use crate::collections::progress::Progress;
+use crate::jobs::many_files::Task;
 use crate::jobs::one_file::{OneTask, strategies_of};
 use crate::jobs::session::Session;
 use crate::opening::inputs::Inputs;

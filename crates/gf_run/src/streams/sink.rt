@@ -49,11 +49,8 @@ fn push_again<W: Sink>(output: &mut W, from: &[u8]) -> Result<usize, WriteFault>
         match output.push(from) {
             Ok(0) => return Err(WriteFault),
             Ok(count) => return Ok(count),
-            Err(error) => {
-                if !is_interruption(&error) {
-                    return Err(WriteFault);
-                }
-            }
+            Err(error) if is_interruption(&error) => {}
+            Err(_) => return Err(WriteFault),
         }
     }
     Err(WriteFault)

@@ -56,11 +56,8 @@ fn pull_again<R: Source>(input: &mut R, to: &mut [u8], which: Which) -> Result<u
     for _turn in 0..PATIENCE {
         match input.pull(to) {
             Ok(count) => return Ok(count),
-            Err(error) => {
-                if !is_interruption(&error) {
-                    return Err(RunFault::Read(which));
-                }
-            }
+            Err(error) if is_interruption(&error) => {}
+            Err(_) => return Err(RunFault::Read(which)),
         }
     }
     Err(RunFault::Read(which))

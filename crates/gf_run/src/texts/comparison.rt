@@ -3,7 +3,7 @@
 ghost use Rattle.std.specs.Prelude.{◌≡◌, MatchResult};
 ghost use Rattle.gf_canon.specs.GameFile.{SameFile};
 ghost use Rattle.gf_canon.specs.SameBy.{SameBy};
-ghost use Rattle.gf_run.specs.FormText.{IsFaultOfFiles};
+ghost use Rattle.gf_run.specs.Faults.{IsFaultOfFiles};
 ghost use Rattle.gf_run.specs.Run.{IsAnswerBy};
 ghost use Rattle.gf_run.specs.SameText.{IsAnswer, IsLine, IsLineAndMap, answer_line};
 

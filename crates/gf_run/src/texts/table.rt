@@ -2,7 +2,8 @@
 
 ghost use Rattle.std.specs.Prelude.{◌≤◌, MatchResult, length};
 ghost use Rattle.gf_canon.specs.MeaningOf.{file_of};
-ghost use Rattle.gf_run.specs.FormText.{FileHasFewPlayers, IsFaultOfBytes, IsFileWithoutForm, IsFormText};
+ghost use Rattle.gf_run.specs.Faults.{IsFaultOfBytes};
+ghost use Rattle.gf_run.specs.FormText.{FileHasFewPlayers, IsFileWithoutForm, IsFormText};
 ghost use Rattle.gf_run.specs.FormText.{IsTableOfFile};
 ghost use Rattle.gf_run.specs.Transfers.{limit};
 

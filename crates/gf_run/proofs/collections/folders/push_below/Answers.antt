@@ -18,20 +18,20 @@ loop-turn-init g c = record {
 pub loop-turn-preserved : goal.loop-turn-preserved
 loop-turn-preserved g c =
     let now = c.loop-turn.invariant in
-    let same = c.is_kept.ensures.repeats ∙ now.repeats in
-    let passed : c.in_ok-is_kept.field-0 ≡ false
+    let same = c.visit.ensures.repeats ∙ now.repeats in
+    let passed : c.in_ok-visit.field-0 ≡ false
     → IsUnderWay c.args.kept.now.repeats c.args.path.now c.args.kept.now.files.items
-    c.is_kept.new.search.waiting.items c.is_kept.new.search.has_games
-    c.is_kept.new.kept.files.items
-    = λ no. rw c.is_kept.ensures.files (passed_one _ _ _ c.pop.new.self.items _ c.in-Some.file
-    (c.in_ok-is_kept.ensures.waiting c.args.path.now) _ _ _ _ c.in-Some.ensures.items
-    (rw now.repeats at (c.in_ok-is_kept.ensures.games no)) now.under_way) in
+    c.visit.new.search.waiting.items c.visit.new.search.has_games
+    c.visit.new.kept.files.items
+    = λ no. rw c.visit.ensures.files (passed_one _ _ _ c.pop.new.self.items _ c.in-Some.file
+    (c.in_ok-visit.ensures.waiting c.args.path.now) _ _ _ _ c.in-Some.ensures.items
+    (rw now.repeats at (c.in_ok-visit.ensures.games no)) now.under_way) in
     elim c.if-branch.branch [
       | then-branch+in_ok-push w ↦ rw (w.kept-is, w.search-is) (record {
         repeats = same;
-        under_way = rw (w.in_ok-push.ensures.items, c.is_kept.ensures.files)
+        under_way = rw (w.in_ok-push.ensures.items, c.visit.ensures.files)
             (kept_one _ _ _ c.pop.new.self.items _ c.in-Some.file
-            (c.in_ok-is_kept.ensures.waiting c.args.path.now) _ _ _ c.in-Some.ensures.items
+            (c.in_ok-visit.ensures.waiting c.args.path.now) _ _ _ c.in-Some.ensures.items
             now.under_way);
       })
       | else-branch+in-Input+in-File-1 w ↦ rw (w.kept-is, w.search-is)

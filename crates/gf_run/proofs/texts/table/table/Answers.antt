@@ -9,8 +9,8 @@ use Rattle.gf_token.proofs.Offered.{few_ahead}
 use Rattle.gf_tree.specs.Game.{Game}
 use Rattle.gf_tree.specs.GameOf.{SpellsGame}
 use Rattle.gf_run.proofs.Errors.{only_error}
-use Rattle.gf_run.specs.Faults.{form_fault}
-use Rattle.gf_run.specs.FormText.{FileHasFewPlayers, IsFaultOfBytes, IsFileWithoutForm}
+use Rattle.gf_run.specs.Faults.{IsFaultOfBytes, form_fault}
+use Rattle.gf_run.specs.FormText.{FileHasFewPlayers, IsFileWithoutForm}
 use Rattle.gf_run.specs.Transfers.{limit}
 use Rattle.gf_run.proofs.texts.table.table.Goals as goal
 

@@ -3,7 +3,7 @@ use Rattle.gf_words.specs.declared.job.Input.{Input}
 use Rattle.gf_run.specs.inner.Followed.{IsFrom}
 use Rattle.gf_run.specs.declared.collections.file.CollectionFile.{CollectionFile}
 use Rattle.gf_run.proofs.Found.{adds_from}
-use Rattle.gf_run.proofs.collections.folders.is_kept.Goals as goal
+use Rattle.gf_run.proofs.collections.folders.visit.Goals as goal
 
 pub returns-in_ok-open_folder-clause-waiting : goal.returns-in_ok-open_folder-clause-waiting
 returns-in_ok-open_folder-clause-waiting g c = λ name is.

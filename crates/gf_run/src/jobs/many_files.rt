@@ -1,4 +1,4 @@
-//! What the program does for the files of a collection, and what is done with them.
+//! The jobs over several files: which files these are, and which run is made for them.
 
 ghost use Rattle.std.specs.Prelude.{◌≡◌, ◌++◌, IfOk, OnOk, codes, map};
 ghost use Rattle.std.specs.String.{string_bytes};

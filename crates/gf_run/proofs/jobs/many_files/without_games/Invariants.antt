@@ -1,7 +1,7 @@
 use Rattle.std.proofs.Common.{◌≡◌, ◌++◌, drop, map}
 use Rattle.std.specs.String.{string_bytes}
 use Rattle.gf_run.specs.Performs.{without_games}
-use Rattle.gf_run.proofs.collections.collection.without_games.Given as goal
+use Rattle.gf_run.proofs.jobs.many_files.without_games.Given as goal
 
 abbrev pub invariant-loop-folder : goal.invariant-loop-folder
 invariant-loop-folder l =
