@@ -23,19 +23,22 @@ all_choices (count ∷ counts) =
 abbrev pub strategies : Game → ℕ → List (List ℕ)
 strategies g player = all_choices (action_counts g player)
 
--- one strategy for each player
-abbrev pub AreStrategies : Game → List (List ℕ) → Type 0
-AreStrategies g all = AllZip (λ strategy player.
-    AllZip (λ action count. (1 ≤ action) × (action ≤ count)) strategy (action_counts g player)) all
-    (positions (length g.players))
-
--- its actions, joined by `-`
-abbrev pub strategy_label : List ℕ → List ℕ
-strategy_label strategy = join_with_byte 45 (map decimal strategy)
+-- an action for each set of this player
+abbrev pub IsStrategy : Game → ℕ → List ℕ → Type 0
+IsStrategy g player strategy =
+    AllZip (λ action count. (1 ≤ action) × (action ≤ count)) strategy (action_counts g player)
 
 -- the players, from 1
 abbrev pub players_of : Game → List ℕ
 players_of g = positions (length g.players)
+
+-- one strategy for each player
+abbrev pub AreStrategies : Game → List (List ℕ) → Type 0
+AreStrategies g all = AllZip (λ strategy player. IsStrategy g player strategy) all (players_of g)
+
+-- its actions, joined by `-`
+abbrev pub strategy_label : List ℕ → List ℕ
+strategy_label strategy = join_with_byte 45 (map decimal strategy)
 
 -- the strategy at this position, from 1; if there is no such position, one that chooses nothing
 abbrev pub strategy_at : {A : Type 0} → List (List A) → ℕ → List A

@@ -16,6 +16,7 @@ ghost use Rattle.gf_tree.specs.WorkedTrees.{bonus, forgetful};
 ghost use Rattle.gf_tree.specs.SameGame.{SameGame};
 ghost use Rattle.gf_form.specs.Strategies.{action_counts, choice_at, choices_by, full_profiles};
 ghost use Rattle.gf_form.specs.Strategies.{players_of, strategies, strategies_at, strategy_label};
+ghost use Rattle.gf_form.specs.Strategies.{IsStrategy};
 ghost use Rattle.gf_form.specs.Plays.{follows, plays, HasActions, PartAtChance, Play};
 ghost use Rattle.gf_form.specs.Payoff.{payoff, payoff_at, play_probability};
 ghost use Rattle.gf_form.specs.BottomUp.{IsValue};
@@ -73,8 +74,7 @@ pub fn value_is_payoff()
 pub fn every_strategy()
     ensures each_choice { (g : Game) (player : ℕ) (strategy : List ℕ)
         → Contains (strategies g player) strategy
-        ↔ AllZip (λ action count. (1 ≤ action) × (action ≤ count)) strategy
-        (action_counts g player) }
+        ↔ IsStrategy g player strategy }
     ensures count { (g : Game) (player : ℕ)
         → length (strategies g player) ≡ product (action_counts g player) }
     ensures each_once { (g : Game) (player i j : ℕ) → i < length (strategies g player)

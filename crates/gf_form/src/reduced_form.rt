@@ -7,6 +7,7 @@ ghost use Rattle.gf_tree.specs.IsGame.{IsGame};
 ghost use Rattle.gf_form.specs.inner.strategies.Counted.{AreCounts};
 ghost use Rattle.gf_form.specs.inner.reduced.Firsts.{AreFirsts, IsPaidAt};
 ghost use Rattle.gf_form.specs.inner.rows.ProfileRows.{AreRowsAt};
+ghost use Rattle.gf_form.specs.Forms.{HasFewPlayers};
 ghost use Rattle.gf_form.specs.Reduced.{IsReducedForm, reduced_labels, reduced_profiles};
 ghost use Rattle.gf_form.specs.Refusal.{HasReducedValues, HasTooManyProfiles, ReducedOverflowsAt};
 ghost use Rattle.gf_form.specs.Strategies.{full_profiles, players_of};
@@ -83,7 +84,7 @@ fn form_with(
 /// the order of the table, if some player has no bottom-up value at it and each player has one at
 /// all profiles before it. `Memory` if memory is refused.
 pub fn table_reduced(alloc: Global, game: &Game<'_>) -> Result<Table, FormFault>
-    requires { length game.now.players ≤ 4294967295 }
+    requires { HasFewPlayers game.now }
     ensures form { IfOk result (λ t. IsReducedForm game.now t) }
     ensures few { OnOk result (¬ (HasTooManyProfiles game.now)) }
     ensures values { OnOk result ((profile : List ℕ) → Contains (reduced_profiles game.now) profile

@@ -6,6 +6,7 @@ ghost use Rattle.gf_nfg.specs.TableOfParts.{IsTableOf};
 ghost use Rattle.gf_form.specs.inner.strategies.Counted.{AreCounts};
 ghost use Rattle.gf_form.specs.inner.rows.FitsTable.{FitsTable};
 ghost use Rattle.gf_form.specs.inner.rows.ProfileRows.{AreRowsAt};
+ghost use Rattle.gf_form.specs.Forms.{HasFewPlayers};
 ghost use Rattle.gf_form.specs.Refusal.{HasTooManyProfiles, HasValues, OverflowsAt};
 ghost use Rattle.gf_form.specs.StrategicForm.{ArePayoffsAt, IsStrategicForm};
 ghost use Rattle.gf_form.specs.Strategies.{full_profiles};
@@ -75,7 +76,7 @@ fn form_with(
 /// some player has no bottom-up value at it and each player has one at all profiles before it.
 /// `Memory` if memory is refused.
 pub fn table(alloc: Global, game: &Game<'_>) -> Result<Table, FormFault>
-    requires { length game.now.players ≤ 4294967295 }
+    requires { HasFewPlayers game.now }
     ensures form { IfOk result (λ t. IsStrategicForm game.now t) }
     ensures few { OnOk result (¬ (HasTooManyProfiles game.now)) }
     ensures values { OnOk result ((profile : List ℕ) → Contains (full_profiles game.now) profile

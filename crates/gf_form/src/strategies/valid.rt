@@ -1,9 +1,9 @@
 //! Whether choices are strategies that the players of a game have.
 
-ghost use Rattle.std.specs.Prelude.{◌↔◌, ◌≤◌, IsTrue, length, map};
-ghost use Rattle.std.specs.List.{AllZip};
+ghost use Rattle.std.specs.Prelude.{◌↔◌, IsTrue, map};
 ghost use Rattle.gf_tree.specs.IsGame.{IsGame};
-ghost use Rattle.gf_form.specs.Strategies.{AreStrategies, action_counts};
+ghost use Rattle.gf_form.specs.Forms.{HasFewPlayers};
+ghost use Rattle.gf_form.specs.Strategies.{AreStrategies, IsStrategy};
 
 use crate::strategies::counts::action_count;
 use gf_tree::Game;
@@ -11,8 +11,7 @@ use gf_tree::Game;
 /// Whether these are an action for each set of a player.
 fn is_strategy(game: &Game<'_>, player: u32, strategy: &[u32]) -> bool
     requires is_game { IsGame game.now }
-    ensures { IsTrue result ↔ AllZip (λ action count. (1 ≤ action) × (action ≤ count)) strategy.now
-        (action_counts game.now player) }
+    ensures { IsTrue result ↔ IsStrategy game.now player strategy.now }
 {
     if strategy.len() != game.set_count(player) {
         return false;
@@ -32,7 +31,7 @@ fn is_strategy(game: &Game<'_>, player: u32, strategy: &[u32]) -> bool
 #[tactic(auto, using(crate::proofs::lemmas::strategies::CountedActions::strategy_steps))]
 pub fn are_strategies(game: &Game<'_>, choices: &[Vec<u32>]) -> bool
     ensures sound { IsTrue result → AreStrategies game.now (map (λ own. own.items) choices.now) }
-    ensures complete { length game.now.players ≤ 4294967295
+    ensures complete { HasFewPlayers game.now
         → AreStrategies game.now (map (λ own. own.items) choices.now) → IsTrue result }
 {
     if choices.len() != game.players().len() {
