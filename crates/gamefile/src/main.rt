@@ -1,5 +1,5 @@
-//! `gamefile` reads Gambit game files: it writes the canonical text of a game, says what a file
-//! holds, writes a tree as a table, and says whether two files mean the same.
+//! `gamefile` reads Gambit game files: it says what a file holds, writes its canonical text or the
+//! hash of it, writes a tree as a table, and says which files mean the same.
 #![tactic(auto)]
 
 use arguments::request_given;
@@ -44,8 +44,8 @@ fn request(rt: &HostRuntime) -> Result<Request, WordsFault> {
     Ok(request)
 }
 
-/// Does what is asked for, and returns the exit status. If how many files are done is shown, that
-/// is erased before a line is written beside it.
+/// Does what is asked for, and returns the exit status. If progress is shown, it is erased before a
+/// line is written.
 fn run(rt: &HostRuntime, request: &Request) -> u8 {
     let shows = shows_progress(rt, request);
     let erases = shows && rt.stdout().is_terminal();
