@@ -33,6 +33,11 @@ pub struct Run {
     pub text: &'static [u8],
 }
 
+/// The second file of a run; empty if there is none.
+pub fn second_of(run: &Run) -> &'static [u8] {
+    run.second.unwrap_or(b"")
+}
+
 /// A run of each call.
 pub static RUNS: [Run; 7] = [
     Run {
@@ -120,17 +125,11 @@ pub static MORE_RUNS: [Run; 4] = [
 
 /// The answer of a call that only writes.
 fn done(answer: Result<(), RunFault>) -> Result<bool, RunFault> {
-    match answer {
-        Ok(()) => Ok(true),
-        Err(fault) => Err(fault),
-    }
+    answer.map(|_| true)
 }
 
 fn is_tree(answer: Result<FileKind, RunFault>) -> Result<bool, RunFault> {
-    match answer {
-        Ok(kind) => Ok(kind == FileKind::Tree),
-        Err(fault) => Err(fault),
-    }
+    answer.map(|kind| kind == FileKind::Tree)
 }
 
 /// Makes a call. The second input is not read by a call over one.

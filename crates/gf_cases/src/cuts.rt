@@ -34,28 +34,6 @@ static REFUSALS: [(usize, usize, Why); 21] = [
     (20, 20, Why::Expected(What::Index)),
 ];
 
-static FILES: [&[u8]; 19] = [
-    SELTEN,
-    SELTEN_BY_OUTCOMES,
-    NULL_OUTCOME,
-    NULL_OUTCOME_BY_PAYOFFS,
-    NOBODY,
-    NOBODY_TABLE,
-    FIVE,
-    FIVE_BY_OTHER_NUMBERS,
-    ONE_SET,
-    TWO_SETS,
-    ONE_OUTCOME,
-    TWO_OUTCOMES,
-    NOTHING,
-    ZERO,
-    QUOTED,
-    ANY_BYTES,
-    BONUS,
-    OVERFLOWING,
-    RULED_OUT,
-];
-
 /// The refusal of a file; `None` if it is accepted.
 fn refusal(alloc: Global, file: &[u8]) -> Option<Fault> {
     canonical(alloc, file).err()

@@ -219,3 +219,26 @@ pub const RULED_OUT_REDUCED: &[u8] = b"NFG 1 R \"r\" { \"A\" }
 2
 3
 ";
+
+/// The files that are cut, and whose canonical text is canonised again.
+pub static FILES: [&[u8]; 19] = [
+    SELTEN,
+    SELTEN_BY_OUTCOMES,
+    NULL_OUTCOME,
+    NULL_OUTCOME_BY_PAYOFFS,
+    NOBODY,
+    NOBODY_TABLE,
+    FIVE,
+    FIVE_BY_OTHER_NUMBERS,
+    ONE_SET,
+    TWO_SETS,
+    ONE_OUTCOME,
+    TWO_OUTCOMES,
+    NOTHING,
+    ZERO,
+    QUOTED,
+    ANY_BYTES,
+    BONUS,
+    OVERFLOWING,
+    RULED_OUT,
+];

@@ -49,10 +49,7 @@ fn run_groups(rt: &HostRuntime) -> io::Result<()> {
 
 /// Names the calls that need memory.
 fn name_calls(rt: &HostRuntime) -> io::Result<()> {
-    for number in 0..usize::MAX {
-        let Some(name) = memory::name(number) else {
-            break;
-        };
+    for (name, _) in &memory::CALLS {
         println!(rt; "{name}")?;
     }
     Ok(())

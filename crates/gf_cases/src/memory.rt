@@ -12,6 +12,9 @@ mod runs;
 mod texts;
 mod words;
 
+pub use games::by_other_numbers;
+pub use parts::made_table;
+
 /// What came of a call.
 #[derive(Clone, Copy, PartialEq, Eq)]
 pub enum Came {
@@ -27,7 +30,7 @@ pub enum Came {
 
 /// A call.
 #[derive(Clone, Copy)]
-enum Subject {
+pub enum Subject {
     WriteFraction,
     WriteLabel,
     MakeTable,
@@ -50,7 +53,8 @@ enum Subject {
     Run(usize),
 }
 
-static CALLS: [(&str, Subject); 25] = [
+/// The calls with their names.
+pub static CALLS: [(&str, Subject); 25] = [
     ("Fraction::write", Subject::WriteFraction),
     ("write_label", Subject::WriteLabel),
     ("Table::new", Subject::MakeTable),
@@ -113,14 +117,6 @@ fn make_again(alloc: Global, subject: Subject) -> Came {
             _ => Came::Wrong,
         },
         came => came,
-    }
-}
-
-/// The name of the call with this number, from 0.
-pub fn name(number: usize) -> Option<&'static str> {
-    match CALLS.get(number) {
-        Some((name, _)) => Some(*name),
-        None => None,
     }
 }
 

@@ -21,6 +21,9 @@ pub enum Step {
     Fails,
 }
 
+/// The step of a stream that moves all at once.
+pub static AT_ONCE: [Step; 1] = [Step::Moves(usize::MAX)];
+
 /// Steps, of which the last repeats.
 #[derive(Clone, Copy)]
 struct Script<'a> {

@@ -1,23 +1,23 @@
 //! The calls over readers and writers that answer in pieces, are interrupted, or fail.
 
-use crate::calls::{Call, MORE_RUNS, RUNS, Run, make};
+use crate::calls::{Call, MORE_RUNS, RUNS, Run, make, second_of};
 use crate::cases::Cases;
-use crate::scripts::{Reader, Step, Writer};
+use crate::scripts::{AT_ONCE, Reader, Step, Writer};
 use gf_run::{LIMIT, RunFault, Which};
 use gf_token::{Fault, Why};
 use std::alloc::{AllocError, Global};
-
-static AT_ONCE: [Step; 1] = [Step::Moves(usize::MAX)];
 
 static BYTE_BY_BYTE: [Step; 1] = [Step::Moves(1)];
 
 static WITHOUT_END: [Step; 1] = [Step::Spaces];
 
-/// A request that fails, in three ways; after it, the stream would go on.
+/// A request that fails; after it, the stream would go on, here and below.
 static FAILURE: [Step; 2] = [Step::Fails, Step::Moves(1)];
 
+/// A write that takes nothing, which is a failure too.
 static NOTHING_TAKEN: [Step; 2] = [Step::Nothing, Step::Moves(1)];
 
+/// One interruption more than a request may have.
 static SIXTEEN_INTERRUPTIONS: [Step; 17] = [
     Step::Interrupted,
     Step::Interrupted,
@@ -58,13 +58,6 @@ fn interrupted(alloc: Global, requests: usize) -> Result<Vec<Step>, AllocError> 
         steps.extend_from_slice(&SIXTEEN_INTERRUPTIONS[1..])?;
     }
     Ok(steps)
-}
-
-fn second_of(run: &Run) -> &'static [u8] {
-    match run.second {
-        Some(file) => file,
-        None => b"",
-    }
 }
 
 /// Whether a run over these streams answers and writes what it has to.

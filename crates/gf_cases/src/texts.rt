@@ -2,6 +2,7 @@
 
 use crate::cases::Cases;
 use crate::games::*;
+use crate::memory::made_table;
 use gf_canon::{Names, canonical, same, same_by};
 use gf_form::{FormFault, table, table_reduced};
 use gf_nfg::{Table, write_nfg};
@@ -21,26 +22,6 @@ static CANONICAL: [(&[u8], &[u8]); 10] = [
     (FIVE_BY_OTHER_NUMBERS, FIVE_TEXT),
     (QUOTED, QUOTED_TEXT),
     (ANY_BYTES, ANY_BYTES_TEXT),
-];
-
-/// Files whose canonical text is canonised again.
-static AGAIN: [&[u8]; 16] = [
-    SELTEN,
-    SELTEN_BY_OUTCOMES,
-    NULL_OUTCOME,
-    NULL_OUTCOME_BY_PAYOFFS,
-    NOBODY,
-    NOBODY_TABLE,
-    FIVE,
-    FIVE_BY_OTHER_NUMBERS,
-    ONE_SET,
-    TWO_SETS,
-    ONE_OUTCOME,
-    TWO_OUTCOMES,
-    NOTHING,
-    ZERO,
-    QUOTED,
-    ANY_BYTES,
 ];
 
 /// Two files, and whether they are the same with their names and without.
@@ -84,17 +65,11 @@ fn stays(alloc: Global, file: &[u8]) -> bool {
 }
 
 fn are_same(alloc: Global, a: &[u8], b: &[u8]) -> Option<bool> {
-    match same(alloc, a, b) {
-        Ok(answer) => Some(answer),
-        Err(_) => None,
-    }
+    same(alloc, a, b).ok()
 }
 
 fn are_same_by(alloc: Global, a: &[u8], b: &[u8], names: Names) -> Option<bool> {
-    match same_by(alloc, a, b, names) {
-        Ok(answer) => Some(answer),
-        Err(_) => None,
-    }
+    same_by(alloc, a, b, names).ok()
 }
 
 fn is_compared(alloc: Global, a: &[u8], b: &[u8], kept: bool, aside: bool) -> bool {
@@ -110,6 +85,14 @@ fn is_written_as(alloc: Global, made: Result<Table, FormFault>, text: &[u8]) -> 
     };
     let mut out = Vec::new(alloc);
     write_nfg(&table, &mut out).is_ok() && out.as_slice() == text
+}
+
+/// Whether the table of Selten, made of its parts, has the text of its file.
+fn is_made_as_read(alloc: Global) -> bool {
+    match made_table(alloc) {
+        Ok(table) => is_written_as(alloc, Ok(table), SELTEN_TEXT),
+        Err(_) => false,
+    }
 }
 
 fn has_forms(alloc: Global, game: &Game<'_>, form: &[u8], reduced: &[u8]) -> bool {
@@ -149,7 +132,7 @@ pub fn texts(alloc: Global) -> Cases {
     for (file, text) in &CANONICAL {
         cases.add("a canonical text", has_text(alloc, file, text));
     }
-    for file in &AGAIN {
+    for file in &FILES {
         cases.add("a text canonised again", stays(alloc, file));
     }
     for (a, b, kept, aside) in &PAIRS {
@@ -162,6 +145,7 @@ pub fn texts(alloc: Global) -> Cases {
     for (file, form, reduced) in &FORMS {
         cases.add("a table", tree_has_forms(alloc, file, form, reduced));
     }
+    cases.add("a table that was made", is_made_as_read(alloc));
     cases.add("a fault", tells_a_fault(alloc));
     cases
 }

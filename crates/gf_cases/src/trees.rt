@@ -5,6 +5,7 @@ use crate::games::{
     BONUS, FIVE, FIVE_BY_OTHER_NUMBERS, FIVE_TEXT, FIVE_TEXT_BY_OTHER_NUMBERS, NULL_OUTCOME,
     NULL_OUTCOME_BY_PAYOFFS, ONE_SET, SELTEN, TWO_SETS,
 };
+use crate::memory::by_other_numbers;
 use gf_canon::{Renumbering, renumber, renumbering, write_efg};
 use gf_fraction::Fraction;
 use gf_nfg::read_nfg;
@@ -153,6 +154,17 @@ fn keeps_numbers(alloc: Global) -> bool {
     }
 }
 
+/// Whether the tree is written by the numbers that it is given.
+fn takes_numbers(alloc: Global) -> bool {
+    let Ok(game) = read_efg(alloc, FIVE) else {
+        return false;
+    };
+    match by_other_numbers(alloc, &game) {
+        Ok(copy) => is_written_as(alloc, Ok(copy), FIVE_TEXT_BY_OTHER_NUMBERS),
+        Err(_) => false,
+    }
+}
+
 /// The renumbering between two trees; `Err` if there is no answer.
 fn between(alloc: Global, a: &[u8], b: &[u8]) -> Result<Option<Renumbering>, ()> {
     let (Ok(first), Ok(second)) = (read_efg(alloc, a), read_efg(alloc, b)) else {
@@ -219,6 +231,7 @@ pub fn trees(alloc: Global) -> Cases {
     holdings(alloc, &mut cases);
     cases.add("numbers by first use", numbers_by_first_use(alloc));
     cases.add("numbers that stay", keeps_numbers(alloc));
+    cases.add("numbers that are given", takes_numbers(alloc));
     new_numbers(alloc, &mut cases);
     cases.add("no renumbering", has_none(alloc, ONE_SET, TWO_SETS));
     cases.add("in the other order", has_none(alloc, TWO_SETS, ONE_SET));

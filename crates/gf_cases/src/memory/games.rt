@@ -11,43 +11,57 @@ use gf_nfg::Table;
 use gf_tree::{Game, read_efg};
 use std::alloc::{AllocError, Global};
 
-/// What came of a call that gives the game by these numbers, the first two of which are sets.
+/// What came of a call that gives the game by these numbers of its sets and its outcome.
 fn came_of_copy(
     answer: Result<Game<'_>, AllocError>,
     chance: u32,
-    second: u32,
+    own: [u32; 2],
     outcome: u32,
 ) -> Came {
     match answer {
         Ok(copy) => right_if(
             copy.set_number(0, 1) == Some(chance)
-                && copy.set_number(1, 2) == Some(second)
+                && copy.set_number(1, 1) == Some(own[0])
+                && copy.set_number(1, 2) == Some(own[1])
                 && copy.outcome_number(1) == Some(outcome),
         ),
         Err(AllocError) => Came::OutOfMemory,
     }
 }
 
-pub fn give_numbers(alloc: Global) -> Came {
-    let (Ok(game), Ok(chance), Ok(own)) = (
-        read_efg(alloc, FIVE),
+/// The game of `FIVE` by the numbers of `FIVE_BY_OTHER_NUMBERS`.
+pub fn by_other_numbers<'a>(alloc: Global, game: &Game<'a>) -> Result<Game<'a>, Came> {
+    let (Ok(chance), Ok(own)) = (
         Vec::from_slice(alloc, &[2]),
         Vec::from_slice(alloc, &[3, 8]),
     ) else {
-        return Came::NotMade;
+        return Err(Came::NotMade);
     };
     if game.players().len() != 1 || game.outcome_count() != 1 {
-        return Came::Wrong;
+        return Err(Came::Wrong);
     }
     if game.set_count(0) != 1 || game.set_count(1) != 2 {
-        return Came::Wrong;
+        return Err(Came::Wrong);
     }
-    came_of_copy(game.with_numbers(alloc, &[chance, own], &[2]), 2, 8, 2)
+    match game.with_numbers(alloc, &[chance, own], &[2]) {
+        Ok(copy) => Ok(copy),
+        Err(AllocError) => Err(Came::OutOfMemory),
+    }
+}
+
+pub fn give_numbers(alloc: Global) -> Came {
+    let Ok(game) = read_efg(alloc, FIVE) else {
+        return Came::NotMade;
+    };
+    match by_other_numbers(alloc, &game) {
+        Ok(copy) => came_of_copy(Ok(copy), 2, [3, 8], 2),
+        Err(came) => came,
+    }
 }
 
 pub fn number_by_first_use(alloc: Global) -> Came {
     match read_efg(alloc, FIVE) {
-        Ok(game) => came_of_copy(renumber(alloc, &game), 1, 2, 1),
+        Ok(game) => came_of_copy(renumber(alloc, &game), 1, [1, 2], 1),
         Err(_) => Came::NotMade,
     }
 }

@@ -74,7 +74,7 @@ fn made<'a>(
 }
 
 /// The table of Selten.
-fn made_table(alloc: Global) -> Result<Table, Came> {
+pub fn made_table(alloc: Global) -> Result<Table, Came> {
     let (Some(title), Some(comment), Some(row), Some(column)) = (
         Label::new(b"Selten"),
         Label::new(b""),

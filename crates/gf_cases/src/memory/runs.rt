@@ -1,13 +1,11 @@
 //! Runs over open inputs.
 
-use crate::calls::{Run, make};
+use crate::calls::{Run, make, second_of};
 use crate::memory::Came;
 use crate::memory::texts::{came_of_fault, right_if};
-use crate::scripts::{Reader, Step, Writer};
+use crate::scripts::{AT_ONCE, Reader, Writer};
 use gf_run::{RunFault, status};
 use std::alloc::Global;
-
-static AT_ONCE: [Step; 1] = [Step::Moves(usize::MAX)];
 
 fn came_of_run_fault(fault: &RunFault) -> Came {
     if status(fault) != 5 {
@@ -22,7 +20,7 @@ fn came_of_run_fault(fault: &RunFault) -> Came {
 
 pub fn run(alloc: Global, run: &Run) -> Came {
     let mut first = Reader::new(run.first, &AT_ONCE);
-    let mut second = Reader::new(run.second.unwrap_or(b""), &AT_ONCE);
+    let mut second = Reader::new(second_of(run), &AT_ONCE);
     let mut output = Writer::new(run.text, &AT_ONCE);
     match make(alloc, run.call, &mut first, &mut second, &mut output) {
         Ok(answer) => right_if(answer == run.answer && output.is_done()),

@@ -3,7 +3,7 @@ use Rattle.std.proofs.lemmas.List.{length-map}
 use Rattle.gf_tree.specs.Game.{Game}
 use Rattle.gf_tree.specs.KeysInOrder.{outcome_numbers, player_keys}
 use Rattle.gf_tree.specs.ListedNumbers.{AreListed, AreNumbers}
-use Rattle.gf_cases.proofs.memory.games.give_numbers.Goals as goal
+use Rattle.gf_cases.proofs.memory.games.by_other_numbers.Goals as goal
 
 each_set : (g : Game) (chance own : List ℕ) → length g.players ≡ 1
     → length (player_keys g 0) ≡ length chance → length (player_keys g 1) ≡ length own
@@ -33,9 +33,10 @@ listed g players first second outcomes chance own is-2 is-3-8 = rw (is-2, is-3-8
 
 pub with_numbers-requires : goal.with_numbers-requires
 with_numbers-requires c =
-    let r = c.in-Ok-Ok-Ok in
-    listed r.game (grind (arith, length-map, c.players.ensures.names, c.if-players-ne1.false))
+    let r = c.in-Ok-Ok in
+    listed c.args.game.now
+    (grind (arith, length-map, c.players.ensures.names, c.if-players-ne1.false))
     (grind (arith, c.set_count.ensures.count, c.if-set_count-ne1.false))
     (grind (arith, c.set_count-else-set_count-ne1.ensures.count, c.if-set_count-ne2.false))
     (grind (arith, c.outcome_count.ensures.count, c.if-outcome_count-ne1.false))
-    r.chance.items r.own.items r.ensures'.items r.ensures''.items
+    r.chance.items r.own.items r.ensures.items r.ensures'.items
