@@ -1,5 +1,5 @@
 -- The pieces of a canonical text, for the functions that append them.
-use Rattle.std.specs.Prelude.{ℕ, ◌-◌, List, [], ◌∷◌, ◌++◌, map}
+use Rattle.std.specs.Prelude.{◌≡◌, ℕ, ◌+◌, ◌-◌, ◌*◌, ◌<◌, ◌≤◌, List, [], ◌∷◌, ◌++◌, map, length}
 use Rattle.std.specs.Prelude.{codes, drop, get_or, if◌then◌else◌, nat_lt}
 use Rattle.std.specs.List.{flat_map}
 use Rattle.gf_fraction.specs.Ratio.{Ratio}
@@ -23,6 +23,11 @@ row_text row = spaced (map number_text row)
 -- and their line
 abbrev pub line_text : List Ratio → List ℕ
 line_text row = row_text row ++ 10 ∷ []
+
+-- A text ends with the line of these payoffs, which begins at this place, or ends at this place.
+abbrev pub EndsWithLine : List Ratio → ℕ → List ℕ → Type 0
+EndsWithLine row start text = (start ≤ length text) × (start < length text
+    → (drop start text ≡ line_text row) × (length text ≤ start + (81 * length row + 1)))
 
 -- the lines of the rows still to come
 abbrev pub lines_rest : List (List Ratio) → ℕ → List ℕ

@@ -32,7 +32,7 @@ pub(crate) fn same_frame(a: &Frame, b: &Frame, names: Names) -> bool
 
 /// Whether both rows are the same.
 #[tactic(auto, using(crate::proofs::lemmas::tables::Agreement::same_by_payoffs))]
-fn same_row(a: &[Fraction], b: &[Fraction]) -> bool
+pub(crate) fn same_row(a: &[Fraction], b: &[Fraction]) -> bool
     ensures { IsTrue result ↔ (a.now ≡ b.now) }
 {
     a == b

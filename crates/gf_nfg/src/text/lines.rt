@@ -6,9 +6,11 @@ ghost use Rattle.std.specs.Prelude.{slice_get, vec_capacity, vec_len};
 ghost use Rattle.std.specs.List.{AllByRecursion};
 ghost use Rattle.gf_fraction.specs.NumberText.{number_text};
 ghost use Rattle.gf_nfg.specs.TableText.{lines_text};
-ghost use Rattle.gf_nfg.specs.inner.TextParts.{line_text, lines_rest, lines_with, row_text};
+ghost use Rattle.gf_nfg.specs.inner.TextParts.{EndsWithLine, line_text, lines_rest, lines_with};
+ghost use Rattle.gf_nfg.specs.inner.TextParts.{row_text};
 ghost use Rattle.gf_token.specs.TextLayout.{Keeps, others_text};
 
+use crate::table::agree::same_row;
 use crate::table::pieces::piece;
 use crate::table::rows::{NumberedRows, Rows};
 use gf_fraction::Fraction;
@@ -40,6 +42,7 @@ fn write_line(payoffs: &[Fraction], out: &mut Vec<u8>) -> Result<(), AllocError>
     ensures kept { OnErr result (Keeps out.old.items out.new.items) }
     ensures full { OnErr result
         (vec_capacity out.old < vec_len out.old + (81 * length payoffs.now + 1)) }
+    ensures grown { vec_len out.new ≤ vec_len out.old + (81 * length payoffs.now + 1) }
     ensures capacity { vec_capacity out.old ≤ vec_capacity out.new }
 {
     let Some((first, others)) = payoffs.split_first() else {
@@ -50,6 +53,32 @@ fn write_line(payoffs: &[Fraction], out: &mut Vec<u8>) -> Result<(), AllocError>
     write_others(others, out)?;
     out.push(b'\n')?;
     Ok(())
+}
+
+/// Appends the line of the payoffs at one profile. It is copied from the line before, which begins
+/// at `start`, if that is of the same payoffs: where a set is not reached, its actions pay the same.
+#[inline(always)]
+#[tactic(auto, using(crate::proofs::lemmas::texts::Pieces::copied))]
+fn write_next(
+    before: &[Fraction],
+    start: usize,
+    payoffs: &[Fraction],
+    out: &mut Vec<u8>,
+) -> Result<(), AllocError>
+    requires { EndsWithLine before.now start out.old.items }
+    ensures text { OnOk result (out.new.items ≡ out.old.items ++ line_text payoffs.now) }
+    ensures kept { OnErr result (Keeps out.old.items out.new.items) }
+    ensures full { OnErr result
+        (vec_capacity out.old < vec_len out.old + (81 * length payoffs.now + 1)) }
+    ensures grown { vec_len out.new ≤ vec_len out.old + (81 * length payoffs.now + 1) }
+    ensures capacity { vec_capacity out.old ≤ vec_capacity out.new }
+{
+    let end = out.len();
+    if start < end && same_row(payoffs, before) {
+        out.extend_from_within(start..end)
+    } else {
+        write_line(payoffs, out)
+    }
 }
 
 /// Lines, one after another, with the place where each ends.
@@ -204,11 +233,17 @@ pub(crate) fn write_lines(
         (λ row. bytes + (81 * length row + 1) ≤ vec_capacity out.old) rows.now)) }
     ensures capacity { vec_capacity out.old ≤ vec_capacity out.new }
 {
+    let mut start = out.len();
+    let mut before: &[Fraction] = &[];
     for place in from..rows.len() {
-        if out.len() >= bytes {
+        let end = out.len();
+        if end >= bytes {
             return Ok(place);
         }
-        write_line(rows.row(place), out)?;
+        let row = rows.row(place);
+        write_next(before, start, row, out)?;
+        before = row;
+        start = end;
     }
     Ok(rows.len())
 }

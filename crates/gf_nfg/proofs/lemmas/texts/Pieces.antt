@@ -1,13 +1,16 @@
 -- Canonical text, piece by piece.
-use Rattle.gf_nfg.proofs.Common.{◌≡◌, ℕ, ◌+◌, ◌<◌, [], ◌∷◌, map, refl, sym, ap, Err, Ok}
+use Rattle.gf_nfg.proofs.Common.{◌≡◌, ℕ, ◌+◌, ◌*◌, ◌<◌, ◌≤◌, [], ◌∷◌, map, refl, sym, ap, Err, Ok}
 use Rattle.gf_nfg.proofs.Common.{append_assoc, at_drop_more, take-append-le, take-append-drop, List}
 use Rattle.gf_nfg.proofs.Common.{◌++◌, drop, Some, codes, OnErr, Result, Ratio, spaced, Keeps}
 use Rattle.gf_nfg.proofs.Common.{length, get_or, drop_all, line_text, list_text}
 use Rattle.gf_nfg.proofs.Common.{drop_more, slice_get_within, get_or_from_slice_get, quoted}
-use Rattle.gf_nfg.proofs.Common.{slice_get, arith, length-take, append-nil, others_text}
+use Rattle.gf_nfg.proofs.Common.{slice_get, arith, length-append, length-take, append-nil, others_text}
+use Rattle.std.specs.List.{slice_range}
+use Rattle.std.proofs.Math.Seq.{drop-append_seam}
+use Rattle.std.proofs.lemmas.List.Folds.{drop_split}
 use Rattle.gf_fraction.specs.NumberText.{number_text}
 use Rattle.gf_nfg.specs.inner.ListsLeft.{items_text}
-use Rattle.gf_nfg.specs.inner.TextParts.{lines_rest}
+use Rattle.gf_nfg.specs.inner.TextParts.{EndsWithLine, lines_rest}
 
 spaced_items : (first : List ℕ) (items : List (List ℕ))
     → spaced (first ∷ (items ++ codes "}" ∷ [])) ≡ first ++ 32 ∷ items_text items
@@ -49,8 +52,18 @@ payoffs_rest payoffs = others_text (map number_text payoffs)
 
 pub ruleset rows_spaced = (append_assoc, spaced_is)
 
+-- what a text ends with, from a place on
+pub copied : (text line : List ℕ) (start : ℕ) → start ≤ length text → drop start text ≡ line
+    → slice_range text start (length text) ≡ line
+copied text line start h is = grind (arith, append-nil, drop_all, drop_split text start (length text) h)
+
 -- a row more was written
 pub row_written : (rs : List (List Ratio)) (at : ℕ) (row : List Ratio) (old new whole : List ℕ)
     → slice_get rs at ≡ Some row → new ≡ old ++ line_text row → old ++ lines_rest rs at ≡ whole
     → new ++ lines_rest rs (at + 1) ≡ whole
 row_written rs at row old new whole is written h = grind (arith, append_assoc, drop_from)
+
+-- it is now the last one
+pub row_begun : (row : List Ratio) (old new : List ℕ) → new ≡ old ++ line_text row
+    → length new ≤ length old + (81 * length row + 1) → EndsWithLine row (length old) new
+row_begun row old new written within = grind (arith, length-append, drop-append_seam)
