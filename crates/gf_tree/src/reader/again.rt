@@ -17,6 +17,7 @@ use gf_fraction::Fraction;
 use gf_token::{Cursor, Fault, Label, What, Why};
 
 /// Reads a number that has to have this value.
+#[inline(always)]
 #[tactic(auto, using(gf_fraction::proofs::Offered::number_answers))]
 fn number_again(tokens: &mut Cursor<'_>, number: Fraction) -> Result<(), Fault>
     ensures probability { (c : Content) (b : Begun) (others : List spec_action)
@@ -120,6 +121,7 @@ pub(crate) fn set_again<'a>(
 }
 
 /// Reads a payoff of an outcome that is known, and one comma if there is one.
+#[inline(always)]
 fn payoff_again(tokens: &mut Cursor<'_>, payoff: Fraction) -> Result<(), Fault>
     ensures machine { (c : Content) (others : List Ratio)
         → Goes (heard (KnownPayoff false (payoff ∷ others)) c tokens.old) result

@@ -153,9 +153,6 @@ module _ (g : Game) (at : ℕ) (n : Stored) (kept : IsKeptAt g at n) where
   set_is : (k : ℕ) → n.set ≡ k → node.set ≡ option_map (λ s. s.key) (at_position g.sets k)
   set_is k e = cc kept.node
 
-  pub no_set : n.set ≡ 0 → node.set ≡ None
-  no_set e = set_is 0 e
-
   set_before : ¬ (n.set ≡ 0) → node.set ≡ option_map (λ s. s.key) (slice_get g.sets (n.set - 1))
   set_before some = cc (set_is n.set refl, at_index g.sets n.set (omega (arith, some)))
 
