@@ -149,6 +149,10 @@ pub fn push_part(text: &mut ShownText, part: Part<'_>) -> Result<(), AllocError>
 }
 
 /// Appends a line of these parts.
+///
+/// # Errors
+///
+/// `AllocError` if memory is refused; the text has then some of them, or none.
 pub fn push_line(text: &mut ShownText, parts: &[Part<'_>]) -> Result<(), AllocError>
     ensures { OnOk result (EndsLine text.new) }
 {
@@ -159,6 +163,10 @@ pub fn push_line(text: &mut ShownText, parts: &[Part<'_>]) -> Result<(), AllocEr
 }
 
 /// The name of a file as it is shown.
+///
+/// # Errors
+///
+/// `AllocError` if memory is refused.
 pub fn shown_name(alloc: Global, name: &str) -> Result<String, AllocError>
     ensures { IfOk result (λ text. string_bytes text ≡ shown_name name.now) }
 {

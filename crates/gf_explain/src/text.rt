@@ -89,6 +89,10 @@ fn push_refusal(text: &mut ShownText, fault: &Fault, bytes: &[u8]) -> Result<(),
 }
 
 /// A line, and after it what is shown.
+///
+/// # Errors
+///
+/// `AllocError` if memory is refused.
 // No edit: it puts parts together.
 pub fn said_after(alloc: Global, line: &[u8], text: &ShownText) -> Result<Vec<u8>, AllocError>
     ensures text { IfOk result (λ said. said.items ≡ line.now ++ codes ": " ++ text.now) }
