@@ -24,7 +24,8 @@ row_text row = spaced (map number_text row)
 abbrev pub line_text : List Ratio → List ℕ
 line_text row = row_text row ++ 10 ∷ []
 
--- A text ends with the line of these payoffs, which begins at this place, or ends at this place.
+-- A text ends at this place, or with the line of these payoffs, which begins at this place and has at
+-- most 81 bytes for each and one more.
 abbrev pub EndsWithLine : List Ratio → ℕ → List ℕ → Type 0
 EndsWithLine row start text = (start ≤ length text) × (start < length text
     → (drop start text ≡ line_text row) × (length text ≤ start + (81 * length row + 1)))

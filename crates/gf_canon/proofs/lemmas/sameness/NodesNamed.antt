@@ -1,7 +1,7 @@
 -- The nodes of a game without its names are its nodes without theirs.
 use Rattle.gf_canon.proofs.Common
 use Common.{first_use_numbers, unnamed_outcome, canonical_game, unnamed_game, unnamed_node, flatten}
-use Common.{flatten_map, unnamed_set, file_nodes, filter_map, heading_by, heading_in, map-append, ℕ}
+use Common.{flatten_map, unnamed_set, file_nodes, filter_map, heading_by, heading_in, map-append}
 use Common.{node_after, option_map, outcome_at, map_entry, use_after, FileNode, same_set, game_by}
 use Common.{node_by, Listed, Option, nat_eq, set_at, use_by, Aside, Names, arith, Bool, Game, Kept}
 use Common.{List, Node, refl, ◌++◌, map, sym, ◌∷◌, ◌≡◌, []}

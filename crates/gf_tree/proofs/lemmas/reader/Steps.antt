@@ -27,7 +27,6 @@ use Rattle.gf_tree.specs.inner.AddsUp.{adds_up}
 use Rattle.gf_tree.specs.inner.FoundSet.{FoundOutcome, FoundSet}
 use Rattle.gf_tree.specs.inner.ReaderState.{with_text}
 use Rattle.gf_tree.proofs.lemmas.stores.FoundKeys.{described_at, not_described}
-use Rattle.gf_tree.proofs.lemmas.stores.FoundKeys.{set_in_parts}
 use Rattle.gf_tree.proofs.lemmas.games.TreesOnce.{same_set_equality}
 use Rattle.gf_tree.proofs.lemmas.games.Members.{something_there}
 use Rattle.gf_tree.proofs.lemmas.games.Uses.{IsEquality}

@@ -6,7 +6,7 @@ use Common.{used_outcomes, number_among, subtrees_all, MatchOption, Decides-eqb,
 use Common.{child_trees, option_map, subtree_at, same_Some, Described, game_with, tree_with, get_or}
 use Common.{root_node, position, drop-map, known_of, AreNodes, subtrees, flatten, Outcome}
 use Common.{IsAmong, kept_of, skipped, branch, Stored, Action, SetKey, set_of, IsGame, set_at, zero}
-use Common.{nat_eq, arith, Parts, Begin, List, ◌++◌, drop, take, Some, None, refl, Tree, ◌≡◌}
+use Common.{nat_eq, arith, Parts, Begin, List, ◌++◌, drop, take, Some, refl, Tree, ◌≡◌}
 use Common.{more, Game, Node, suc, ◌+◌, ◌-◌, ◌<◌, ◌≤◌, ◌∷◌, map, sym, ◌∙◌, [], ap, ℕ}
 use Rattle.std.proofs.lemmas.List.{append-nil, drop-drop}
 use Rattle.gf_tree.specs.inner.GameParts.{IsKeptAt}
