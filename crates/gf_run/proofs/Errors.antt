@@ -1,5 +1,5 @@
 -- What holds for the value or for the error of a result.
-use Rattle.std.proofs.Common.{◌≡◌, ℕ, List, Result, Ok, Err, IfErr, IsErrAnd, MatchResult, OnErr, OnOk}
+use Rattle.std.proofs.Common.{◌≡◌, ℕ, List, Result, Ok, Err, IsErrAnd, MatchResult, OnErr, OnOk}
 use Rattle.std.proofs.Common.{arith, inl, inr}
 use Rattle.std.specs.Prelude.{⊤}
 use Rattle.gf_run.specs.Performs.{without_cause}
@@ -9,16 +9,7 @@ use Rattle.gf_run.specs.Transfers.{IsWriteFault, IsWritten}
 use Rattle.gf_run.specs.declared.explain.Failed.{Failed}
 use Rattle.gf_run.specs.declared.fault.RunFault.{RunFault}
 
--- an error, and what holds whether there is one or not
-pub OnErr-always : {T E : Type 0} (r : Result T E) (P : Type 0) → P → OnErr r P
-OnErr-always r P holds = grind arith
-
 -- the only error that there is
-pub IfErr-only : {T E : Type 0} (r : Result T E) (only : E) (P : E → Type 0)
-    → IsErrAnd r (λ e. e ≡ only) → P only → IfErr r P
-IfErr-only r only P is holds = grind arith
-
--- the same where something holds for a value too
 pub only_error : {T E : Type 0} (r : Result T E) (only : E) (P : T → Type 0) (Q : E → Type 0)
     → IsErrAnd r (λ e. e ≡ only) → Q only → MatchResult r P Q
 only_error r only P Q is holds = grind arith

@@ -9,10 +9,11 @@ use Rattle.std.specs.List.{All, ends_with}
 use Rattle.std.specs.Str.Lossy.{utf8_lossy}
 use Rattle.std.specs.String.{string_bytes}
 use Rattle.gf_words.specs.declared.job.Input.{Input}
-use Rattle.gf_run.specs.LedTo.{AreLedTo, HasPath, IsIn, LeadsTo, MayBePassedOver, folder_at}
+use Rattle.gf_run.specs.LedTo.{AreLedTo, HasGames, HasPath, IsIn, LeadsTo, MayBePassedOver}
+use Rattle.gf_run.specs.LedTo.{folder_at}
 use Rattle.gf_run.specs.LedTo.AreLedTo.{one_more}
-use Rattle.gf_run.specs.LedTo.LeadsTo.{has_files, is_without}
-use Rattle.gf_run.specs.inner.Followed.{Adds, HasMet, IsFollowed, IsFrom}
+use Rattle.gf_run.specs.LedTo.LeadsTo.{is_path}
+use Rattle.gf_run.specs.inner.Followed.{Adds, IsFollowed, IsFrom}
 use Rattle.gf_run.specs.declared.collections.file.CollectionFile.{CollectionFile}
 use Rattle.gf_run.specs.declared.collections.folders.Repeats.{Repeats}
 
@@ -116,39 +117,34 @@ followed_still repeats name old new some more (inr (met, (passed_over, kept)))
       [],
       new_is,
       are,
-      subst (λ b. HasMet repeats old b []) (sym met)
+      subst (HasGames repeats old []) (sym met)
           (inr (passed_over, λ none. kept (new_is ∙ append-nil old ∙ none))),
     )
 followed_still repeats name old new some more (inr (met, _)) (file ∷ own, new_is, are, _) = (
   file ∷ own,
   new_is,
   are,
-  subst (λ b. HasMet repeats old b (file ∷ own)) (sym met) (inl (λ none. absurd cc)),
+  subst (HasGames repeats old (file ∷ own)) (sym met) (inl (λ none. absurd cc)),
 )
 
 pub led : {E : Type 0} (result : Result Bool E) (repeats : Repeats) (name : List ℕ)
     (old new : List CollectionFile) → name ≢ codes "-"
     → IfOk result (λ some. IsFollowed repeats name old some new)
     → IfOk result (λ some. (own : List CollectionFile) × (new ≡ old ++ own)
-    × LeadsTo repeats old name own (if some then [] else utf8_lossy name ∷ []))
-led (Ok true) repeats name old new other (own, new_is, are, met) =
-    (own, new_is, has_files own other are met)
-led (Ok false) repeats name old new other (own, new_is, are, met) = (
-  own,
-  new_is,
-  subst (λ files. LeadsTo repeats old name files (utf8_lossy name ∷ [])) (sym met)
-      (is_without other),
-)
+    × LeadsTo repeats old name own some)
+led (Ok some) repeats name old new other (own, new_is, are, met) =
+    (own, new_is, is_path own some other are met)
 led (Err e) repeats name old new other h = tt
 
 -- what names lead to, after one more of them
 pub led_on : {P : Type 0} (name_of : P → List ℕ) (paths : List P) (at : ℕ) (path : P)
-    (repeats : Repeats) (files own new : List CollectionFile) (without own_without : List (List ℕ))
-    → at < length paths → path ≡ get_or paths at path → new ≡ files ++ own
+    (repeats : Repeats) (files own new : List CollectionFile) (without : List (List ℕ))
+    (some : Bool) → at < length paths → path ≡ get_or paths at path → new ≡ files ++ own
     → AreLedTo repeats (map name_of (take at paths)) files without
-    → LeadsTo repeats files (name_of path) own own_without
-    → AreLedTo repeats (map name_of (take (at + 1) paths)) new (without ++ own_without)
-led_on name_of paths at path repeats files own new without own_without within is new_is led one =
+    → LeadsTo repeats files (name_of path) own some
+    → AreLedTo repeats (map name_of (take (at + 1) paths)) new
+    (without ++ (if some then [] else utf8_lossy (name_of path) ∷ []))
+led_on name_of paths at path repeats files own new without some within is new_is led one =
     rw (map_more name_of paths at path within, ← is, new_is) (one_more _ _ _ _ _ _ led one)
 
 -- ---- while files wait

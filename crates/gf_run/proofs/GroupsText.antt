@@ -7,7 +7,7 @@ use Rattle.std.proofs.lemmas.List.{append-nil, drop_all, get_or-map, length-map}
 use Rattle.std.specs.List.{flat_map, list_any}
 use Rattle.gf_words.specs.declared.job.LineEnd.{LineEnd}
 use Rattle.gf_run.specs.Duplicates.{groups_text, has_two, name_lines}
-use Rattle.gf_run.specs.LineText.{end_text}
+use Rattle.gf_run.specs.Texts.{end_text}
 use Rattle.gf_run.proofs.Going.{left_at}
 
 -- the text of these groups, if they are the first ones, and if they come after others

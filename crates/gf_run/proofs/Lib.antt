@@ -4,5 +4,4 @@ pub mod Found
 pub mod Going
 pub mod Grouped
 pub mod GroupsText
-pub mod MapLines
 pub mod Written

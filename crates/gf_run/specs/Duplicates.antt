@@ -1,10 +1,10 @@
 -- Which of the files that were read are the same game, and the text that names them.
-use Rattle.std.specs.Prelude.{◌≡◌, ℕ, Bool, nat_eq, nat_lt, not, List, length, map}
+use Rattle.std.specs.Prelude.{◌≡◌, ℕ, Bool, nat_eq, nat_lt, not, List, [], length, map}
 use Rattle.std.specs.Cmp.Lexicographic.{pointwise}
 use Rattle.std.specs.List.{Contains, filter, flat_map, join_by, list_any}
 use Rattle.gf_tree.specs.FiniteMap.{first_uses}
 use Rattle.gf_words.specs.declared.job.LineEnd.{LineEnd}
-use Rattle.gf_run.specs.LineText.{end_text, name_line}
+use Rattle.gf_run.specs.Texts.{end_text, name_line}
 
 -- a file that was read: its name, and the hash of its canonical text
 pub record HashedFile : Type 0 where
@@ -52,7 +52,7 @@ are_apart files = not (list_any has_two (map names_of (groups_of files)))
 
 -- a line for each name
 abbrev pub name_lines : LineEnd → List (List ℕ) → List ℕ
-name_lines end names = flat_map (name_line end) names
+name_lines end names = flat_map (name_line end []) names
 
 -- the names of groups, with an empty line between two groups
 abbrev pub groups_text : LineEnd → List (List (List ℕ)) → List ℕ

@@ -9,7 +9,7 @@ use Rattle.gf_canon.specs.declared.sameness.SameFault.{SameFault}
 use Rattle.gf_form.specs.declared.fault.FormFault.{FormFault}
 use Rattle.gf_form.specs.declared.forms.Strategies.{Strategies}
 use Rattle.gf_explain.specs.FaultLine.{form_text, place_text}
-use Rattle.gf_run.specs.FormText.{IsFileWithoutForm}
+use Rattle.gf_run.specs.Texts.{IsFileWithoutForm}
 use Rattle.gf_run.specs.declared.fault.RunFault.{RunFault}
 use Rattle.gf_run.specs.declared.fault.Which.{Which}
 
@@ -73,7 +73,7 @@ status_of RunFault.Memory = 5
 status_of (RunFault.Form FormFault.Memory) = 5
 status_of (RunFault.Form fault) = 2
 
--- of an answer: nothing is against it, or something is
+-- of an answer: two files mean the same, a file is canonical or no files are duplicates, or not
 abbrev pub answer_status : Bool → ℕ
 answer_status true = 0
 answer_status false = 1

@@ -1,5 +1,5 @@
 -- Which files the names of a collection lead to.
-use Rattle.std.specs.Prelude.{◌≡◌, ◌≢◌, ◌⊎◌, ℕ, List, [], ◌∷◌, ◌++◌}
+use Rattle.std.specs.Prelude.{◌≡◌, ◌≢◌, ◌⊎◌, ℕ, Bool, true, false, List, [], ◌∷◌, ◌++◌}
 use Rattle.std.specs.Prelude.{IfSome, Option, codes, if◌then◌else◌, map, nat_eq, option_to_list}
 use Rattle.std.specs.List.{All, ends_with}
 use Rattle.std.specs.Str.{IsUtf8}
@@ -36,27 +36,30 @@ AreOf name files = (named : Option CollectionFile) × ((below : List CollectionF
 abbrev pub MayBePassedOver : Repeats → (before : List CollectionFile) → Type 0
 MayBePassedOver repeats before = (repeats ≡ Repeats.PassedOver) × (before ≢ [])
 
--- what a name leads to after the files of other names: files, and what is reported as a folder
--- without game files
+-- whether a name has game files, after those of other names: its own are at least one, unless they
+-- may be passed over; or there are none
+abbrev pub HasGames : Repeats → (before own : List CollectionFile) → Bool → Type 0
+HasGames repeats before own true = (own ≢ []) ⊎ MayBePassedOver repeats before
+HasGames repeats before own false = own ≡ []
+
+-- what a name leads to after the files of other names: files, and whether it has game files
 pub data LeadsTo (repeats : Repeats) (before : List CollectionFile) (name : List ℕ)
-    : (files : List CollectionFile) → (without : List (List ℕ)) → Type 0 where
+    : (files : List CollectionFile) → Bool → Type 0 where
   -- `-` is standard input
   is_standard : name ≡ codes "-"
-      → LeadsTo repeats before name (CollectionFile.Input Input.Standard ∷ []) []
-  -- any other name has files, at least one, unless it may be passed over
-  has_files : (files : List CollectionFile) → name ≢ codes "-" → AreOf name files
-      → (files ≢ []) ⊎ MayBePassedOver repeats before → LeadsTo repeats before name files []
-  -- or none, which is reported
-  is_without : name ≢ codes "-" → LeadsTo repeats before name [] (utf8_lossy name ∷ [])
+      → LeadsTo repeats before name (CollectionFile.Input Input.Standard ∷ []) true
+  is_path : (files : List CollectionFile) (some : Bool) → name ≢ codes "-" → AreOf name files
+      → HasGames repeats before files some → LeadsTo repeats before name files some
 
--- what names lead to: the files of each, and its report, after those of the names before it
+-- what names lead to: the files of each after those of the names before it, and the names that have
+-- none, which are reported
 pub data AreLedTo (repeats : Repeats)
     : (names : List (List ℕ)) → List CollectionFile → (without : List (List ℕ)) → Type 0 where
   none : AreLedTo repeats [] [] []
   one_more : (names : List (List ℕ)) (name : List ℕ) (files own : List CollectionFile)
-      (without own_without : List (List ℕ)) → AreLedTo repeats names files without
-      → LeadsTo repeats files name own own_without
-      → AreLedTo repeats (names ++ name ∷ []) (files ++ own) (without ++ own_without)
+      (without : List (List ℕ)) (some : Bool) → AreLedTo repeats names files without
+      → LeadsTo repeats files name own some → AreLedTo repeats (names ++ name ∷ []) (files ++ own)
+      (without ++ (if some then [] else utf8_lossy name ∷ []))
 
 -- the files of a collection: standard input alone, or those that its names lead to, whatever names
 -- a list has

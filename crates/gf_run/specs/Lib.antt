@@ -1,14 +1,12 @@
 pub mod Duplicates
 pub mod Faults
-pub mod FormText
 pub mod LedTo
-pub mod LineText
 pub mod Opening
 pub mod Performs
 pub mod Reports
 pub mod Run
-pub mod SameText
 pub mod Streams
+pub mod Texts
 pub mod Transfers
 pub mod Wrapped
 pub mod inner

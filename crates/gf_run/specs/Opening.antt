@@ -1,5 +1,6 @@
 -- What is opened for a job.
-use Rattle.std.specs.Prelude.{◌≡◌, ℕ, Bool, true, false, List, codes, Result, Ok, Err, ⊤}
+use Rattle.std.specs.Prelude.{◌≡◌, ℕ, if◌then◌else◌, List, codes, Option, Some, None, Result, Ok}
+use Rattle.std.specs.Prelude.{Err, ⊤}
 use Rattle.std.specs.Str.{bytes_eq}
 use Rattle.std.specs.String.{string_bytes}
 use Rattle.std.specs.declared.io.Error.{Error}
@@ -14,33 +15,24 @@ pub record Opener (I S : Type 0) : Type 1 where
   pub file : I → List ℕ → Result S Error → I → Type 0
   pub replaced : I → List ℕ → List ℕ → Result ⊤ Unreplaced → I → Type 0
 
+-- the name of the file that an input is; standard input has none
+abbrev pub file_of : Input → Option (List ℕ)
+file_of Input.Standard = None
+file_of (Input.File name) = Some (string_bytes name)
+
 module _ {I S : Type 0} (opener : Opener I S) where
-  -- an input was opened
-  abbrev pub IsOpened : Input → I → S → I → Type 0
-  IsOpened Input.Standard i s i' = opener.standard i s i'
-  IsOpened (Input.File name) i s i' = opener.file i (string_bytes name) (Ok s) i'
+  -- what opening gives: the file of this name, or standard input if there is none
+  abbrev pub Opens : Option (List ℕ) → I → Result S Error → I → Type 0
+  Opens None i answer i' = (s : S) × (answer ≡ Ok s) × opener.standard i s i'
+  Opens (Some name) i answer i' = opener.file i name answer i'
 
-  -- an input could not be opened
-  abbrev pub IsNotOpened : Input → I → I → Type 0
-  IsNotOpened Input.Standard i i' = ⊥
-  IsNotOpened (Input.File name) i i' =
-      (error : Error) × opener.file i (string_bytes name) (Err error) i'
+  -- the same for a word; `-` is standard input
+  abbrev pub OpensNamed : List ℕ → I → Result S Error → I → Type 0
+  OpensNamed word = Opens (if bytes_eq word (codes "-") then None else Some word)
 
-  -- a file of a collection was opened
-  abbrev pub IsFileOpened : CollectionFile → I → S → I → Type 0
-  IsFileOpened (CollectionFile.Input input) i s i' = IsOpened input i s i'
-  IsFileOpened (CollectionFile.NotText name) i s i' = ⊥
-
-  -- it could not be opened
-  abbrev pub IsFileNotOpened : CollectionFile → I → I → Type 0
-  IsFileNotOpened (CollectionFile.Input input) i i' = IsNotOpened input i i'
-  IsFileNotOpened (CollectionFile.NotText name) i i' = i' ≡ i
-
-  -- what opening a name gives, by whether it is that of standard input
-  abbrev pub OpensBy : Bool → List ℕ → I → Result S Error → I → Type 0
-  OpensBy true name i answer i' = (s : S) × (answer ≡ Ok s) × opener.standard i s i'
-  OpensBy false name i answer i' = opener.file i name answer i'
-
-  -- what opening a name gives; `-` is standard input
-  abbrev pub Opens : List ℕ → I → Result S Error → I → Type 0
-  Opens name = OpensBy (bytes_eq name (codes "-")) name
+  -- opening a file of a collection gives an input that is open, or none
+  abbrev pub OpensFile : CollectionFile → I → Option S → I → Type 0
+  OpensFile (CollectionFile.Input input) i (Some s) i' = Opens (file_of input) i (Ok s) i'
+  OpensFile (CollectionFile.Input input) i None i' =
+      (error : Error) × Opens (file_of input) i (Err error) i'
+  OpensFile (CollectionFile.NotText name) i answer i' = (answer ≡ None) × (i' ≡ i)

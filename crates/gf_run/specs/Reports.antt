@@ -1,35 +1,26 @@
 -- What is reported on standard error, and how the program ends.
-use Rattle.std.specs.Prelude.{◌≡◌, ◌⊎◌, ℕ, List, ◌++◌, codes, Option, Some, None, Result, Ok, Err}
+use Rattle.std.specs.Prelude.{◌≡◌, ◌⊎◌, ℕ, List, codes, Option, Some, None, Result, Ok, Err}
 use Rattle.std.specs.String.{string_bytes}
 use Rattle.gf_words.specs.declared.fault.WordsFault.{WordsFault}
 use Rattle.gf_words.specs.declared.job.Input.{Input}
 use Rattle.gf_explain.specs.Explained as refusal
 use Rattle.gf_explain.specs.Explained.{IsSaidAfter}
-use Rattle.gf_explain.specs.Shown.{shown_name}
 use Rattle.gf_run.specs.Faults.{fault_line, short_line, status_of}
 use Rattle.gf_run.specs.Transfers.{IsWriteFault, IsWritten}
 use Rattle.gf_run.specs.Streams.{Stream}
+use Rattle.gf_run.specs.Texts.{after_name}
 use Rattle.gf_run.specs.declared.collections.file.CollectionFile.{CollectionFile}
 use Rattle.gf_run.specs.declared.fault.RunFault.{RunFault}
 
--- what an input is called in an explanation
-abbrev pub called_input : Input → List ℕ
-called_input Input.Standard = codes "<stdin>"
-called_input (Input.File name) = string_bytes name
-
--- the word that names an input; `-` is standard input
-abbrev pub word_of : Input → List ℕ
-word_of Input.Standard = codes "-"
-word_of (Input.File name) = string_bytes name
+-- what an input is called, where standard input is called this
+abbrev pub called : List ℕ → Input → List ℕ
+called standard Input.Standard = standard
+called standard (Input.File name) = string_bytes name
 
 -- what one of several files is called
 abbrev pub name_of : CollectionFile → List ℕ
-name_of (CollectionFile.Input input) = word_of input
+name_of (CollectionFile.Input input) = called (codes "-") input
 name_of (CollectionFile.NotText name) = string_bytes name
-
--- a text after the name of its file, as it is shown
-abbrev pub after_name : List ℕ → List ℕ → List ℕ
-after_name name text = shown_name name ++ codes ": " ++ text
 
 -- an explanation of a fault of the file with this name and these bytes: that of the refusal; or else
 -- the line of the fault, and after it what is shown

@@ -1,5 +1,6 @@
 -- What a run does: it reads its inputs whole, and then writes the text that answers their bytes.
 use Rattle.std.specs.Prelude.{◌≡◌, ◌⊎◌, ℕ, Bool, true, false, List, Result, Ok, Err, ⊤, MatchResult}
+use Rattle.std.specs.Result.{result_and}
 use Rattle.gf_canon.specs.GameFile.{SameFile}
 use Rattle.gf_canon.specs.NamesAside.{IsTextBy}
 use Rattle.gf_canon.specs.SameBy.{SameBy}
@@ -7,14 +8,14 @@ use Rattle.gf_canon.specs.declared.kind.FileKind.{FileKind}
 use Rattle.gf_token.specs.declared.names.Names.{Names}
 use Rattle.gf_form.specs.declared.forms.Strategies.{Strategies}
 use Rattle.gf_run.specs.Faults.{IsFaultOfBytes, IsFaultOfFile, IsFaultOfFiles, IsRefusal}
-use Rattle.gf_run.specs.FormText.{IsFormText}
 use Rattle.gf_run.specs.Transfers.{IsNotRead, IsReadWhole, IsWriteFault, IsWritten}
-use Rattle.gf_run.specs.LineText.{IsHashOf, IsKindLine, IsLineOf}
-use Rattle.gf_run.specs.SameText.{IsAnswer, IsLine, IsLineAndMap}
 use Rattle.gf_run.specs.Streams.{Stream}
+use Rattle.gf_run.specs.Texts.{IsAnswer, IsFormText, IsHashOf, IsKindLine, IsLine, IsLineAndMap}
+use Rattle.gf_run.specs.Texts.{IsLineOf}
 use Rattle.gf_run.specs.declared.collections.line.FileLine.{FileLine}
 use Rattle.gf_run.specs.declared.fault.RunFault.{RunFault}
 use Rattle.gf_run.specs.declared.fault.Which.{Which}
+use Rattle.gf_run.specs.declared.jobs.one_file.OneTask.{OneTask}
 
 -- For an input, or for two: `IsRead` says that it was read whole, and that these are its bytes, and
 -- `IsUnread` that it was not, and why.
@@ -67,6 +68,13 @@ module _ {R W : Type 0} (reader : Stream R) (writer : Stream W) where
   abbrev pub RunsTable : Strategies → Result ⊤ RunFault → R → R → W → W → Type 0
   RunsTable strategies = Runs (λ answer. IsFormText strategies) (IsFaultOfBytes strategies)
 
+  -- a run over one file by what is done with it; it returns no kind
+  abbrev pub RunsOne : OneTask → Result ⊤ RunFault → R → R → W → W → Type 0
+  RunsOne (OneTask.Canon names) = RunsCanonBy names
+  RunsOne OneTask.Check = λ result i i' o o'.
+      (kind : FileKind) × RunsCheck (result_and result (Ok kind)) i i' o o'
+  RunsOne (OneTask.Table strategies) = RunsTable strategies
+
   -- `run_line`
   abbrev pub RunsLine : FileLine → List ℕ → Result Bool RunFault → R → R → W → W → Type 0
   RunsLine line name = Runs (IsLineOf line name) IsFaultOfFile
@@ -90,16 +98,9 @@ module _ {R S W : Type 0} (first : Stream R) (second : Stream S) (writer : Strea
       ⊎ ((bytes : List ℕ) × IsReadWhole first old.0 new.0 bytes
       × IsNotRead second Which.Second fault old.1 new.1)
 
-  -- this answer about their bytes was written
+  -- `run_same_by`, `run_same` and `run_same_map`: this answer about their bytes was written
   abbrev pub RunsTwo : (Bool → List ℕ → List ℕ → List ℕ → Type 0) → Result Bool RunFault
       → R → R → S → S → W → W → Type 0
   RunsTwo Answers result a a' b b' o o' = Reads AreReadWhole AreNotRead
       (λ bytes result. Writes writer (λ same. Answers same bytes.0 bytes.1)
       (IsFaultOfFiles bytes.0 bytes.1) result o o') (o' ≡ o) result (a, b) (a', b')
-
-  -- `run_same_by`, of which `run_same` is the case with names; and `run_same_map`
-  abbrev pub RunsSameBy : Names → Result Bool RunFault → R → R → S → S → W → W → Type 0
-  RunsSameBy names = RunsTwo (IsAnswer (SameBy names) IsLine)
-
-  abbrev pub RunsSameMap : Result Bool RunFault → R → R → S → S → W → W → Type 0
-  RunsSameMap = RunsTwo (IsAnswer SameFile IsLineAndMap)

@@ -1,6 +1,6 @@
 -- What a reader or a writer shows of itself, and what it was asked and answered, request by request.
 use Rattle.std.specs.Prelude.{◌≡◌, ◌≢◌, ◌⊎◌, ℕ, ◌+◌, ◌-◌, ◌^◌, ◌<◌, ◌≤◌, min, max, zero, suc, List}
-use Rattle.std.specs.Prelude.{[], ◌++◌, length, take, Option, Some, Result, Ok, Err, MatchResult}
+use Rattle.std.specs.Prelude.{[], ◌++◌, length, take, Option, Result, Ok, Err, MatchResult}
 use Rattle.std.specs.IoError.{error_kind}
 use Rattle.std.specs.declared.io.Error.{Error}
 use Rattle.std.specs.declared.io.ErrorKind.{ErrorKind}
@@ -32,10 +32,6 @@ CountsPush old answer new = MatchResult answer
 -- the count rose, or it was at its greatest value
 pub record HasRisen (old new : ℕ) : Type 0 where
   pub risen : next_count old ≤ new
-
--- the last error after an answer
-abbrev pub KeepsLast : Option Error → Result ℕ Error → Option Error → Type 0
-KeepsLast old answer new = MatchResult answer (λ _. new ≡ old) (λ error. new ≡ Some error)
 
 -- ---- turns
 

@@ -1,7 +1,6 @@
 -- How an input is read, and how an output is written.
 use Rattle.std.specs.Prelude.{◌≡◌, ◌⊎◌, ℕ, ◌+◌, ◌<◌, ◌≤◌, List, [], ◌++◌, length}
 use Rattle.std.specs.Io.KnownBytes.{Appends, Consumes, IsAtEnd, Keeps}
-use Rattle.gf_token.specs.declared.fault.Fault.{Fault}
 use Rattle.gf_token.specs.declared.fault.Why.{Why}
 use Rattle.gf_run.specs.Streams.{GivesUp, HasRisen, Moves, Stream, Transfers}
 use Rattle.gf_run.specs.declared.fault.RunFault.{RunFault}
@@ -10,10 +9,6 @@ use Rattle.gf_run.specs.declared.fault.Which.{Which}
 -- the most bytes that an input has
 abbrev pub limit : ℕ
 limit = 16777216
-
--- the refusal of an input that has one more
-abbrev pub too_long : Fault
-too_long = record { span = record { start = limit; end = limit }; why = Why.TooLong }
 
 -- a buffer of n bytes
 abbrev pub HasLength : ℕ → List ℕ → Type 0
@@ -58,7 +53,8 @@ module _ {S : Type 0} (reader : Stream S) where
   -- an input could not be read whole: one byte more than the limit came, and no other was taken; or
   -- the reader failed; or memory ran out, when no more bytes had come than the limit
   abbrev pub IsNotRead : Which → RunFault → S → S → Type 0
-  IsNotRead input (RunFault.Refused which fault) old new = (which ≡ input) × (fault ≡ too_long)
+  IsNotRead input (RunFault.Refused which fault) old new = (which ≡ input)
+      × (fault ≡ record { span = record { start = limit; end = limit }; why = Why.TooLong })
       × ((bytes : List ℕ) × (length bytes ≡ limit + 1) × IsRead old new bytes)
   IsNotRead input (RunFault.Read which) old new = (which ≡ input) × IsReadFault old new
   IsNotRead input RunFault.Memory old new =

@@ -1,9 +1,9 @@
 -- What the readers and writers of the program show, which wrap others; and what opening gives.
 use Rattle.std.specs.Prelude.{◌≡◌, ◌⊎◌, ℕ, Bool, true, false, List, [], ◌++◌, take, Option, Some}
-use Rattle.std.specs.Prelude.{None, if◌then◌else◌, option_map, IfOk, Result, Ok, Err}
+use Rattle.std.specs.Prelude.{None, if◌then◌else◌, option_map, IfOk, MatchResult, Result, Ok, Err}
 use Rattle.std.specs.declared.io.Error.{Error}
 use Rattle.gf_run.specs.Opening.{Opener}
-use Rattle.gf_run.specs.Streams.{KeepsLast, Stream}
+use Rattle.gf_run.specs.Streams.{Stream}
 use Rattle.gf_run.specs.declared.opening.opened.Opened.{Opened}
 use Rattle.gf_run.specs.declared.streams.counted.Counted.{Counted}
 use Rattle.gf_run.specs.declared.streams.erasing.Erasing.{Erasing}
@@ -30,7 +30,8 @@ counting known Counts = record {
   known = λ counted. known (inner_of counted);
   count = failures_of;
   gives = λ old _ answer new. Counts (failures_of old) answer (failures_of new)
-      × KeepsLast (last_of old) answer (last_of new);
+      × MatchResult answer
+      (λ _. last_of new ≡ last_of old) (λ error. last_of new ≡ Some error);
 }
 
 -- ---- a reader that keeps the bytes that pass
@@ -71,16 +72,11 @@ abbrev pub remaining_of : {S F : Type 0} → (S → Option (List ℕ)) → (F �
 remaining_of standard file (Opened.Standard input) = standard input
 remaining_of standard file (Opened.File input) = file input
 
--- it is standard input, or else a file
-abbrev pub is_standard : {S F : Type 0} → Opened S F → Bool
-is_standard (Opened.Standard input) = true
-is_standard (Opened.File input) = false
-
 -- standard input is opened as such, and a file as a file; of what becomes of files, nothing is said
 abbrev pub host_opener : {I S F : Type 0} → Opener I (Counted (Opened S F))
-host_opener = record {
-  standard = λ _ input _. is_standard (inner_of input) ≡ true;
-  file = λ _ _ answer _. IfOk answer (λ input. is_standard (inner_of input) ≡ false);
+host_opener {S = S} {F = F} = record {
+  standard = λ _ opened _. (input : S) × (inner_of opened ≡ Opened.Standard input);
+  file = λ _ _ answer _. IfOk answer (λ opened. (file : F) × (inner_of opened ≡ Opened.File file));
   replaced = λ _ _ _ _ _. Unit {0};
 }
 

@@ -1,7 +1,7 @@
 -- What holds while a name of a collection is followed.
-use Rattle.std.specs.Prelude.{◌≡◌, ◌≢◌, ◌⊎◌, ℕ, Bool, true, false, List, [], ◌++◌}
+use Rattle.std.specs.Prelude.{◌≡◌, ◌⊎◌, ℕ, Bool, List, ◌++◌}
 use Rattle.std.specs.List.{All}
-use Rattle.gf_run.specs.LedTo.{AreOf, HasPath, IsIn, MayBePassedOver, folder_at}
+use Rattle.gf_run.specs.LedTo.{AreOf, HasGames, HasPath, IsIn, folder_at}
 use Rattle.gf_run.specs.declared.collections.file.CollectionFile.{CollectionFile}
 use Rattle.gf_run.specs.declared.collections.folders.Repeats.{Repeats}
 
@@ -14,13 +14,7 @@ abbrev pub Adds : List ℕ → List CollectionFile → List CollectionFile → T
 Adds folder old new =
     (added : List CollectionFile) × (new ≡ old ++ added) × All (IsIn folder) added
 
--- whether a game file of a name was met, after these files: if so, the name has some, unless they
--- may be passed over; if not, it has none
-abbrev pub HasMet : Repeats → List CollectionFile → Bool → List CollectionFile → Type 0
-HasMet repeats before true own = (own ≢ []) ⊎ MayBePassedOver repeats before
-HasMet repeats before false own = own ≡ []
-
 -- a name was followed: its files were added, and it is said whether a game file was met
 abbrev pub IsFollowed : Repeats → List ℕ → List CollectionFile → Bool → List CollectionFile → Type 0
 IsFollowed repeats name old some new = (own : List CollectionFile) × (new ≡ old ++ own)
-    × AreOf name own × HasMet repeats old some own
+    × AreOf name own × HasGames repeats old own some

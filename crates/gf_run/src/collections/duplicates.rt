@@ -2,7 +2,7 @@
 
 ghost use Rattle.std.specs.Prelude.{◌≡◌, List, MatchResult};
 ghost use Rattle.gf_run.specs.Performs.{FindsAll, HashesNext, IsOutOfMemory, IsSame, WritesGroups};
-ghost use Rattle.gf_run.specs.Performs.{reading, world_of};
+ghost use Rattle.gf_run.specs.Performs.{with_output, world_of};
 ghost use Rattle.gf_run.specs.Duplicates.{HashedFile, IsKeptOf};
 ghost use Rattle.gf_run.specs.Run.{ReadsHash};
 
@@ -44,10 +44,10 @@ impl<I: Inputs, P: Progress, W: Sink + LastError, E: Sink> Session<'_, '_, '_, '
         ensures next { (files : List HashedFile) → IsKeptOf files groups.old → MatchResult result
             (λ status. (after : List HashedFile) × IsKeptOf after groups.new
             × HashesNext I.opener I.Opened.reader E.writer self.old.explain names file.now status
-            (reading files (world_of self.old)) (reading after (world_of self.new)))
+            (with_output files (world_of self.old)) (with_output after (world_of self.new)))
             (λ status. IsOutOfMemory I.opener I.Opened.reader E.writer self.old.explain names
             self.old.output.now file.now status
-            (reading files (world_of self.old)) (world_of self.new)) }
+            (with_output files (world_of self.old)) (world_of self.new)) }
         ensures unwritten { self.new.output.now ≡ self.old.output.now }
     {
         let (alloc, explain, name) = (self.alloc, self.explain, name_of(file));
@@ -73,7 +73,7 @@ impl<I: Inputs, P: Progress, W: Sink + LastError, E: Sink> Session<'_, '_, '_, '
         ensures same { IsSame self.old self.new }
         ensures groups { (files : List HashedFile) → IsKeptOf files groups.now
             → WritesGroups W.writer E.writer self.old.explain end self.old.output.now
-            result (reading files (world_of self.old)) (world_of self.new) }
+            result (with_output files (world_of self.old)) (world_of self.new) }
     {
         match write_answer(groups.text(self.alloc, end), self.output) {
             Ok(apart) => answer_status(apart),

@@ -1,9 +1,9 @@
 //! The files of a collection, and how they are opened.
 
-ghost use Rattle.std.specs.Prelude.{◌≡◌, MatchResult};
+ghost use Rattle.std.specs.Prelude.{◌≡◌, MatchResult, None, Some};
 ghost use Rattle.gf_run.specs.Wrapped.{bytes_kept, kept_at_first, source_of};
-ghost use Rattle.gf_run.specs.Opening.{IsFileNotOpened, IsFileOpened};
-ghost use Rattle.gf_run.specs.Reports.{name_of, word_of};
+ghost use Rattle.gf_run.specs.Opening.{OpensFile};
+ghost use Rattle.gf_run.specs.Reports.{called, name_of};
 
 use crate::explain::Cause;
 use crate::opening::inputs::{Inputs, open_kept};
@@ -21,12 +21,12 @@ pub enum CollectionFile {
     NotText(String),
 }
 
-/// The word that names an input.
-pub(crate) fn word_of(input: &Input) -> &str
-    ensures { result.now ≡ word_of input.now }
+/// What an input is called, where standard input is called this.
+pub(crate) fn called<'a>(standard: &'a str, input: &'a Input) -> &'a str
+    ensures { result.now ≡ called standard.now input.now }
 {
     match input {
-        Input::Standard => "-",
+        Input::Standard => standard,
         Input::File(name) => name.as_str(),
     }
 }
@@ -36,7 +36,7 @@ pub(crate) fn name_of(file: &CollectionFile) -> &str
     ensures { result.now ≡ name_of file.now }
 {
     match file {
-        CollectionFile::Input(input) => word_of(input),
+        CollectionFile::Input(input) => called("-", input),
         CollectionFile::NotText(name) => name.as_str(),
     }
 }
@@ -50,9 +50,9 @@ pub(crate) fn open_file<I: Inputs>(
     keeps: bool,
 ) -> Result<Kept<I::Opened>, Cause>
     ensures { MatchResult result
-        (λ kept. IsFileOpened I.opener file.now inputs.old (source_of kept) inputs.new
+        (λ kept. OpensFile I.opener file.now inputs.old (Some (source_of kept)) inputs.new
         × (bytes_kept kept ≡ kept_at_first keeps))
-        (λ _. IsFileNotOpened I.opener file.now inputs.old inputs.new) }
+        (λ _. OpensFile I.opener file.now inputs.old None inputs.new) }
 {
     match file {
         CollectionFile::Input(input) => {

@@ -1,8 +1,6 @@
 //! The files that a path names: a file itself, or, for a folder, the game files below it.
 
-ghost use Rattle.std.specs.Prelude.{◌≡◌, ◌⊎◌, [], ◌∷◌, ◌++◌, List, ℕ, true, false, IfOk, OnOk};
-ghost use Rattle.std.specs.Prelude.{if◌then◌else◌};
-ghost use Rattle.std.specs.Str.Lossy.{utf8_lossy};
+ghost use Rattle.std.specs.Prelude.{◌≡◌, ◌⊎◌, [], ◌++◌, List, ℕ, true, false, IfOk, OnOk};
 ghost use Rattle.std.specs.String.{string_bytes};
 ghost use Rattle.gf_run.specs.LedTo.{HasPath, LeadsTo, MayBePassedOver, folder_at};
 ghost use Rattle.gf_run.specs.inner.Followed.{Adds, IsFollowed, IsFrom};
@@ -272,8 +270,7 @@ pub fn push_files<R: Files + AllocGlobal>(
     ensures repeats { kept.new.repeats ≡ kept.old.repeats }
     ensures files { IfOk result (λ some. (own : List CollectionFile)
         × (kept.new.files.items ≡ kept.old.files.items ++ own)
-        × LeadsTo kept.old.repeats kept.old.files.items path.now own
-        (if some then [] else utf8_lossy path.now ∷ [])) }
+        × LeadsTo kept.old.repeats kept.old.files.items path.now own some) }
 {
     if path == b"-".as_slice() {
         kept.files.push(CollectionFile::Input(Input::Standard))?;

@@ -4,7 +4,7 @@ ghost use Rattle.std.specs.Prelude.{◌≡◌, List, [], ◌∷◌, ◌++◌, ma
 ghost use Rattle.std.specs.Prelude.{if◌then◌else◌};
 ghost use Rattle.gf_run.specs.Duplicates.{HashedFile, IsKeptOf, KeptNames, are_apart, duplicates};
 ghost use Rattle.gf_run.specs.Duplicates.{groups_text, name_lines};
-ghost use Rattle.gf_run.specs.LineText.{end_text};
+ghost use Rattle.gf_run.specs.Texts.{end_text};
 
 use crate::fault::RunFault;
 use crate::texts::answer::{Answer, answer_with};
@@ -33,17 +33,6 @@ impl<'a> Model for Groups<'a> {
     } };
 }
 
-/// Appends a line for each name.
-fn push_names(text: &mut Vec<u8>, names: &[&str], end: LineEnd) -> Result<(), AllocError>
-    ensures { OnOk result (text.new.items ≡ text.old.items
-        ++ name_lines end (map (λ name. name.now) names.now)) }
-{
-    for name in names {
-        push_name_line(text, name, end)?;
-    }
-    Ok(())
-}
-
 /// Appends a line for each name, after an empty line unless these are the first ones.
 fn push_group(
     text: &mut Vec<u8>,
@@ -57,7 +46,10 @@ fn push_group(
     if !first {
         text.extend_from_slice(end_text(end))?;
     }
-    push_names(text, names, end)
+    for name in names {
+        push_name_line(text, b"", name, end)?;
+    }
+    Ok(())
 }
 
 impl<'a> Groups<'a> {

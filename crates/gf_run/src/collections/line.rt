@@ -1,7 +1,7 @@
 //! The line about one of several files, and the run that writes it.
 
-ghost use Rattle.std.specs.Prelude.{◌≡◌, IfOk, MatchResult};
-ghost use Rattle.gf_run.specs.LineText.{IsHashOf, IsLineOf, hash_line};
+ghost use Rattle.std.specs.Prelude.{MatchResult};
+ghost use Rattle.gf_run.specs.Texts.{IsHashOf, IsLineOf};
 ghost use Rattle.gf_run.specs.Faults.{IsFaultOfFile, IsRefusal};
 ghost use Rattle.gf_run.specs.Run.{RunsLine};
 
@@ -11,10 +11,10 @@ use crate::streams::sink::Sink;
 use crate::streams::source::{Source, load};
 use crate::texts::answer::{Answer, answer_with, write_answer};
 use crate::texts::game::{are_canonical, canon, kind_line, kind_of};
-use crate::texts::name::{end_text, mark, push_name, push_name_line};
+use crate::texts::name::push_name_line;
 use gf_canon::{Names, sha256_of};
 use gf_words::LineEnd;
-use std::alloc::{AllocError, Global};
+use std::alloc::Global;
 
 /// What is written about each of several files.
 #[derive(Clone, Copy)]
@@ -35,20 +35,6 @@ pub(crate) fn hash_of(alloc: Global, bytes: &[u8], names: Names) -> Result<[u8; 
     Ok(sha256_of(answer.text))
 }
 
-/// The line of a hash: in hexadecimal, two spaces and the name of the file, as `sha256sum` writes
-/// it.
-fn hash_line(alloc: Global, name: &str, end: LineEnd, hash: [u8; 32]) -> Result<Vec<u8>, AllocError>
-    ensures { IfOk result (λ line. line.items ≡ hash_line end name.now hash) }
-{
-    let digits = hex::encode(alloc, hash)?;
-    let mut line = Vec::from_slice(alloc, mark(name, end))?;
-    line.extend_from_slice(digits.as_bytes())?;
-    line.extend_from_slice(b"  ")?;
-    push_name(&mut line, name, end)?;
-    line.extend_from_slice(end_text(end))?;
-    Ok(line)
-}
-
 /// What is written about the file of this name, which has these bytes.
 fn said_of(
     alloc: Global,
@@ -67,13 +53,17 @@ fn said_of(
         }
         FileLine::Hash(names, end) => {
             let hash = hash_of(alloc, bytes, names)?;
-            Ok(answer_with(true, hash_line(alloc, name, end, hash)?))
+            let mut before = hex::encode(alloc, hash)?;
+            before.push_str("  ")?;
+            let mut text = Vec::new(alloc);
+            push_name_line(&mut text, before.as_bytes(), name, end)?;
+            Ok(answer_with(true, text))
         }
         FileLine::NotCanonical(names) => {
             let good = are_canonical(alloc, bytes, names)?;
             let mut text = Vec::new(alloc);
             if !good {
-                push_name_line(&mut text, name, LineEnd::LineFeed)?;
+                push_name_line(&mut text, b"", name, LineEnd::LineFeed)?;
             }
             Ok(answer_with(good, text))
         }

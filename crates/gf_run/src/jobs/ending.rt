@@ -4,7 +4,8 @@ ghost use Rattle.std.specs.Prelude.{◌≡◌, IfOk, option_map};
 ghost use Rattle.gf_run.specs.Faults.{fault_line, status_of};
 ghost use Rattle.gf_run.specs.Wrapped.{kept_at_first};
 ghost use Rattle.gf_run.specs.Reports.{IsAnswered, IsLineOr, IsNamedExplanation, IsReported};
-ghost use Rattle.gf_run.specs.Reports.{IsTold, IsToldOf, after_name};
+ghost use Rattle.gf_run.specs.Reports.{IsTold, IsToldOf};
+ghost use Rattle.gf_run.specs.Texts.{after_name};
 
 use crate::explain::{Cause, explanation};
 use crate::fault::{RunFault, Which, status};

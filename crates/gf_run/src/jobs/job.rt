@@ -5,11 +5,12 @@ ghost use Rattle.gf_run.specs.Performs.{IsSame, Performs, world_of};
 use crate::collections::line::FileLine;
 use crate::collections::progress::Progress;
 use crate::jobs::many_files::Task;
-use crate::jobs::one_file::{OneTask, strategies_of};
+use crate::jobs::one_file::OneTask;
 use crate::jobs::session::Session;
 use crate::opening::inputs::Inputs;
 use crate::streams::last_error::LastError;
 use crate::streams::sink::Sink;
+use gf_form::Strategies;
 use gf_words::{Job, Request};
 use std::rt::Files;
 
@@ -71,9 +72,10 @@ impl<I: Inputs, P: Progress, W: Sink + LastError, E: Sink> Session<'_, '_, '_, '
         match job {
             Job::Canon { input, names } => self.perform_one(input, OneTask::Canon(*names)),
             Job::Check(input) => self.perform_one(input, OneTask::Check),
-            Job::Table { input, reduced } => {
-                self.perform_one(input, OneTask::Table(strategies_of(*reduced)))
+            Job::Table { input, reduced } if *reduced => {
+                self.perform_one(input, OneTask::Table(Strategies::Reduced))
             }
+            Job::Table { input, .. } => self.perform_one(input, OneTask::Table(Strategies::Pure)),
             Job::Same { a, b, map, names } => {
                 self.perform_same(a.as_str(), b.as_str(), *map, *names)
             }

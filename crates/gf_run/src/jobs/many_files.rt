@@ -1,12 +1,11 @@
 //! The jobs over several files: which files these are, and which run is made for them.
 
-ghost use Rattle.std.specs.Prelude.{◌≡◌, ◌++◌, IfOk, OnOk, codes, map};
+ghost use Rattle.std.specs.Prelude.{◌≡◌, IfOk, map};
 ghost use Rattle.std.specs.String.{string_bytes};
 ghost use Rattle.gf_run.specs.Performs.{Does, IsSame, IsToldOfPaths, PerformsAll};
 ghost use Rattle.gf_run.specs.Performs.{repeats_of, without_games, world_of};
-ghost use Rattle.gf_run.specs.Reports.{after_name};
 
-use crate::collections::file::{CollectionFile, word_of};
+use crate::collections::file::{CollectionFile, called};
 use crate::collections::folders::Repeats;
 use crate::collections::line::FileLine;
 use crate::collections::paths::files_at;
@@ -65,7 +64,7 @@ fn tell_unlisted<E: Sink>(
                 alloc,
                 fault,
                 cause,
-                word_of(list),
+                called("-", list),
                 nothing_kept(explain),
                 errors,
             )
@@ -74,22 +73,14 @@ fn tell_unlisted<E: Sink>(
     }
 }
 
-/// Appends what is said of a folder that has no game files.
-fn push_without_games(alloc: Global, text: &mut Vec<u8>, folder: &str) -> Result<(), AllocError>
-    ensures { OnOk result (text.new.items
-        ≡ text.old.items ++ after_name folder.now (codes "no game files\n")) }
-{
-    let line = after_name(alloc, folder, b"no game files\n")?;
-    text.extend_from_slice(line.as_slice())
-}
-
 /// What is said of folders that were named and have no game files: a line for each.
 fn without_games(alloc: Global, folders: &[String]) -> Result<Vec<u8>, AllocError>
     ensures { IfOk result (λ text. text.items ≡ without_games (map string_bytes folders.now)) }
 {
     let mut text = Vec::new(alloc);
     for folder in folders {
-        push_without_games(alloc, &mut text, folder.as_str())?;
+        let line = after_name(alloc, folder.as_str(), b"no game files\n")?;
+        text.extend_from_slice(line.as_slice())?;
     }
     Ok(text)
 }

@@ -1,9 +1,9 @@
 //! The jobs over one input.
 
-ghost use Rattle.std.specs.Prelude.{◌≡◌};
-ghost use Rattle.gf_run.specs.Performs.{IsSame, PerformsOne, RunsOne, strategies_of, world_of};
-ghost use Rattle.gf_run.specs.Reports.{called_input};
+ghost use Rattle.gf_run.specs.Performs.{IsSame, PerformsOne, world_of};
+ghost use Rattle.gf_run.specs.Run.{RunsOne};
 
+use crate::collections::file::called;
 use crate::explain::cause_of;
 use crate::fault::{RunFault, Which};
 use crate::jobs::ending::{tell_of_file, tell_unopened};
@@ -27,27 +27,6 @@ pub(crate) enum OneTask {
     Check,
     /// A tree is written as its form by these strategies; a table in canonical form.
     Table(Strategies),
-}
-
-/// All strategies, or the reduced ones if they are asked for.
-pub(crate) fn strategies_of(reduced: bool) -> Strategies
-    ensures { result ≡ strategies_of reduced }
-{
-    if reduced {
-        Strategies::Reduced
-    } else {
-        Strategies::Pure
-    }
-}
-
-/// What an input is called in an explanation.
-fn called_input(input: &Input) -> &str
-    ensures { result.now ≡ called_input input.now }
-{
-    match input {
-        Input::Standard => "<stdin>",
-        Input::File(name) => name.as_str(),
-    }
 }
 
 /// Does this with the file that it reads.
@@ -76,7 +55,7 @@ impl<I: Inputs, P, W: Sink + LastError, E: Sink> Session<'_, '_, '_, '_, I, P, W
         ensures performed { PerformsOne I.opener I.Opened.reader W.writer E.writer self.old.explain
             task input.now result (world_of self.old) (world_of self.new) }
     {
-        let (alloc, name) = (self.alloc, called_input(input));
+        let (alloc, name) = (self.alloc, called("<stdin>", input));
         let mut source = match open_kept(alloc, self.inputs, input, self.explain) {
             Ok(source) => source,
             Err(error) => {

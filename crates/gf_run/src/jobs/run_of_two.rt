@@ -1,6 +1,9 @@
 //! The runs that compare two files, over inputs that are open.
 
-ghost use Rattle.gf_run.specs.Run.{IsAnswerBy, RunsSameBy, RunsSameMap, RunsTwo};
+ghost use Rattle.gf_canon.specs.GameFile.{SameFile};
+ghost use Rattle.gf_canon.specs.SameBy.{SameBy};
+ghost use Rattle.gf_run.specs.Run.{IsAnswerBy, RunsTwo};
+ghost use Rattle.gf_run.specs.Texts.{IsAnswer, IsLine, IsLineAndMap};
 
 use crate::fault::{RunFault, Which};
 use crate::streams::sink::Sink;
@@ -52,8 +55,8 @@ pub fn run_same_by<R: Source, S: Source, W: Sink>(
     names: Names,
     output: &mut W,
 ) -> Result<bool, RunFault>
-    ensures { RunsSameBy R.reader S.reader W.writer names result a.old a.new b.old b.new
-        output.old output.new }
+    ensures { RunsTwo R.reader S.reader W.writer (IsAnswer (SameBy names) IsLine) result
+        a.old a.new b.old b.new output.old output.new }
 {
     run_comparison(alloc, a, b, false, names, output)
 }
@@ -73,8 +76,8 @@ pub fn run_same<R: Source, S: Source, W: Sink>(
     b: &mut S,
     output: &mut W,
 ) -> Result<bool, RunFault>
-    ensures { RunsSameBy R.reader S.reader W.writer Names.Kept result a.old a.new b.old b.new
-        output.old output.new }
+    ensures { RunsTwo R.reader S.reader W.writer (IsAnswer (SameBy Names.Kept) IsLine) result
+        a.old a.new b.old b.new output.old output.new }
 {
     run_same_by(alloc, a, b, Names::Kept, output)
 }
@@ -100,8 +103,8 @@ pub fn run_same_map<R: Source, S: Source, W: Sink>(
     b: &mut S,
     output: &mut W,
 ) -> Result<bool, RunFault>
-    ensures { RunsSameMap R.reader S.reader W.writer result a.old a.new b.old b.new
-        output.old output.new }
+    ensures { RunsTwo R.reader S.reader W.writer (IsAnswer SameFile IsLineAndMap) result
+        a.old a.new b.old b.new output.old output.new }
 {
     run_comparison(alloc, a, b, true, Names::Kept, output)
 }

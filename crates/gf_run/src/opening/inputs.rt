@@ -1,8 +1,8 @@
 //! How the inputs of a job are opened, and how a text takes the place of one.
 
-ghost use Rattle.std.specs.Prelude.{◌≡◌, MatchResult};
+ghost use Rattle.std.specs.Prelude.{◌≡◌, Err, MatchResult, Ok};
 ghost use Rattle.gf_run.specs.Wrapped.{bytes_kept, kept_at_first, source_of};
-ghost use Rattle.gf_run.specs.Opening.{IsNotOpened, IsOpened, Opener, Opens};
+ghost use Rattle.gf_run.specs.Opening.{Opener, Opens, OpensNamed, file_of};
 
 use crate::streams::kept::Kept;
 use crate::streams::last_error::LastError;
@@ -44,7 +44,7 @@ pub trait Inputs {
 
 /// Opens what a word names; `-` is standard input.
 pub fn open_named<I: Inputs>(inputs: &mut I, name: &str) -> Result<I::Opened, io::Error>
-    ensures { Opens I.opener name.now inputs.old result inputs.new }
+    ensures { OpensNamed I.opener name.now inputs.old result inputs.new }
 {
     if name == "-" {
         Ok(inputs.standard())
@@ -55,9 +55,7 @@ pub fn open_named<I: Inputs>(inputs: &mut I, name: &str) -> Result<I::Opened, io
 
 /// Opens an input.
 pub fn open_input<I: Inputs>(inputs: &mut I, input: &Input) -> Result<I::Opened, io::Error>
-    ensures { MatchResult result
-        (λ opened. IsOpened I.opener input.now inputs.old opened inputs.new)
-        (λ _. IsNotOpened I.opener input.now inputs.old inputs.new) }
+    ensures { Opens I.opener (file_of input.now) inputs.old result inputs.new }
 {
     match input {
         Input::Standard => Ok(inputs.standard()),
@@ -73,9 +71,9 @@ pub fn open_kept<I: Inputs>(
     keeps: bool,
 ) -> Result<Kept<I::Opened>, io::Error>
     ensures { MatchResult result
-        (λ kept. IsOpened I.opener input.now inputs.old (source_of kept) inputs.new
+        (λ kept. Opens I.opener (file_of input.now) inputs.old (Ok (source_of kept)) inputs.new
         × (bytes_kept kept ≡ kept_at_first keeps))
-        (λ _. IsNotOpened I.opener input.now inputs.old inputs.new) }
+        (λ error. Opens I.opener (file_of input.now) inputs.old (Err error) inputs.new) }
 {
     Ok(Kept::new(alloc, open_input(inputs, input)?, keeps))
 }

@@ -4,7 +4,7 @@ ghost use Rattle.std.specs.Prelude.{◌≡◌, ◌+◌, ◌<◌, ◌≤◌, ◌+
 ghost use Rattle.std.specs.Io.{ReadsAtMost};
 ghost use Rattle.std.specs.Io.KnownBytes.{ReadConsumes};
 ghost use Rattle.gf_run.specs.Streams.{CountsPull, GivesUp, HasRisen, Moves, Stream};
-ghost use Rattle.gf_run.specs.Transfers.{HasLength, IsNotRead, IsRead, IsReadWhole, limit, too_long};
+ghost use Rattle.gf_run.specs.Transfers.{HasLength, IsNotRead, IsRead, IsReadWhole, limit};
 
 use crate::fault::{RunFault, Which, refusal};
 use crate::streams::turns::{PATIENCE, is_interruption};
@@ -63,13 +63,6 @@ fn pull_again<R: Source>(input: &mut R, to: &mut [u8], which: Which) -> Result<u
     Err(RunFault::Read(which))
 }
 
-/// The refusal of an input that has a byte past the limit.
-fn too_long(which: Which) -> RunFault
-    ensures { result ≡ RunFault.Refused which too_long }
-{
-    refusal(which, Fault::at_end(LIMIT, Why::TooLong))
-}
-
 /// Pulls what comes after these bytes to the front of a buffer, but no more than one byte past the
 /// limit, and returns how many bytes came: none at the end of the input.
 fn pull_next<R: Source>(
@@ -91,7 +84,7 @@ fn pull_next<R: Source>(
     let room = (left + 1).min(buffer.len());
     let count = pull_again(input, &mut buffer[..room], which)?;
     if left < count {
-        return Err(too_long(which));
+        return Err(refusal(which, Fault::at_end(LIMIT, Why::TooLong)));
     }
     Ok(count)
 }

@@ -5,7 +5,7 @@ ghost use Rattle.gf_canon.specs.GameFile.{SameFile};
 ghost use Rattle.gf_canon.specs.SameBy.{SameBy};
 ghost use Rattle.gf_run.specs.Faults.{IsFaultOfFiles};
 ghost use Rattle.gf_run.specs.Run.{IsAnswerBy};
-ghost use Rattle.gf_run.specs.SameText.{IsAnswer, IsLine, IsLineAndMap, answer_line};
+ghost use Rattle.gf_run.specs.Texts.{IsAnswer, IsLine, IsLineAndMap, answer_line};
 
 use crate::fault::RunFault;
 use crate::texts::answer::{Answer, answer_with};
@@ -29,11 +29,11 @@ struct PairLines {
 impl ReceivePairs for PairLines {
     ghost use Rattle.std.specs.Prelude.{◌≡◌};
     ghost use Rattle.std.specs.List.{flat_map};
-    ghost use Rattle.gf_run.specs.SameText.{pair_line};
+    ghost use Rattle.gf_run.specs.Texts.{pair_line};
 
     ghost holds = { λ lines pairs. lines.text.items ≡ flat_map pair_line pairs };
 
-    #[tactic(auto, using(crate::proofs::MapLines::one_line_more))]
+    #[tactic(auto, using(std::proofs::lemmas::Grind::common_steps))]
     fn pair(&mut self, pair: NumberPair) -> Result<(), AllocError> {
         self.text.extend_from_slice(pair_line(pair).as_slice())
     }

@@ -4,7 +4,7 @@
 ghost use Rattle.std.specs.Prelude.{◌≡◌, ◌↔◌, MatchResult, IsTrue};
 ghost use Rattle.gf_canon.specs.KindOfFile.{MeansFileOf};
 ghost use Rattle.gf_canon.specs.NamesAside.{IsTextBy};
-ghost use Rattle.gf_run.specs.LineText.{AreCanonical, kind_line};
+ghost use Rattle.gf_run.specs.Texts.{AreCanonical, kind_line};
 ghost use Rattle.gf_run.specs.Faults.{IsRefusal};
 
 use crate::fault::{RunFault, refused};

@@ -2,8 +2,7 @@
 
 ghost use Rattle.std.specs.Prelude.{◌≡◌, ◌++◌, OnOk};
 ghost use Rattle.std.specs.List.{flat_map, list_any};
-ghost use Rattle.gf_run.specs.LineText.{byte_text, end_text, is_escaped, mark, name_line};
-ghost use Rattle.gf_run.specs.LineText.{name_text};
+ghost use Rattle.gf_run.specs.Texts.{byte_text, end_text, is_escaped, mark, name_line, name_text};
 
 use gf_words::LineEnd;
 use std::alloc::AllocError;
@@ -32,7 +31,7 @@ fn has_escaped(name: &[u8]) -> bool
 }
 
 /// What the line of a name begins with: a backslash, if a byte of the name is escaped.
-pub(crate) fn mark(name: &str, end: LineEnd) -> &'static [u8]
+fn mark(name: &str, end: LineEnd) -> &'static [u8]
     ensures { result.now ≡ mark end name.now }
 {
     match end {
@@ -64,7 +63,7 @@ fn push_escaped(text: &mut Vec<u8>, name: &[u8]) -> Result<(), AllocError>
 }
 
 /// Appends a name.
-pub(crate) fn push_name(text: &mut Vec<u8>, name: &str, end: LineEnd) -> Result<(), AllocError>
+fn push_name(text: &mut Vec<u8>, name: &str, end: LineEnd) -> Result<(), AllocError>
     ensures { OnOk result (text.new.items ≡ text.old.items ++ name_text end name.now) }
 {
     match end {
@@ -73,11 +72,17 @@ pub(crate) fn push_name(text: &mut Vec<u8>, name: &str, end: LineEnd) -> Result<
     }
 }
 
-/// Appends the line of a name.
-pub(crate) fn push_name_line(text: &mut Vec<u8>, name: &str, end: LineEnd) -> Result<(), AllocError>
-    ensures { OnOk result (text.new.items ≡ text.old.items ++ name_line end name.now) }
+/// Appends the line of a name, after a text that stands before it.
+pub(crate) fn push_name_line(
+    text: &mut Vec<u8>,
+    before: &[u8],
+    name: &str,
+    end: LineEnd,
+) -> Result<(), AllocError>
+    ensures { OnOk result (text.new.items ≡ text.old.items ++ name_line end before.now name.now) }
 {
     text.extend_from_slice(mark(name, end))?;
+    text.extend_from_slice(before)?;
     push_name(text, name, end)?;
     text.extend_from_slice(end_text(end))
 }

@@ -1,7 +1,7 @@
 //! The lines of a renumbering: one for each information set, and one for each outcome.
 
 ghost use Rattle.std.specs.Prelude.{◌≡◌, ◌≤◌, length};
-ghost use Rattle.gf_run.specs.SameText.{numbers_line, pair_line};
+ghost use Rattle.gf_run.specs.Texts.{numbers_line, pair_line};
 
 use gf_canon::NumberPair;
 use gf_explain::Line;

@@ -1,14 +1,14 @@
 use Rattle.std.proofs.Common.{◌≡◌, ◌<◌, ◌≤◌, [], append-nil, length, rules}
 use Rattle.std.proofs.lemmas.List.{drop_all}
 use Rattle.gf_run.proofs.Asked.{fails, nothing_yet, takes}
-use Rattle.gf_run.proofs.Errors.{OnErr-always, only_error}
+use Rattle.gf_run.proofs.Errors.{only_error}
 use Rattle.gf_run.proofs.streams.sink.push_all.Goals as goal
 
 pub returns-in_err-count-clause-part : goal.returns-in_err-count-clause-part
 returns-in_err-count-clause-part g c =
     let turn = c.in_err-count.ensures in
     let some : 0 < length c.loop-rest.rest.now = search rules in
-    OnErr-always _ _ (fails _ c.args.output.now _ _ _ _ [] (c.loop-rest.invariant _ _ []
+    only_error _ _ _ _ c.from_residual.ensures.1 (fails _ c.args.output.now _ _ _ _ [] (c.loop-rest.invariant _ _ []
     (rw append-nil (nothing_yet _ _ _))) some turn.bytes turn.turn turn.counted)
 
 pub returns-in_err-count-clause-next : goal.returns-in_err-count-clause-next

@@ -1,6 +1,6 @@
 use Rattle.std.proofs.Common.{◌++◌, arith, length-append, length-take, rules, take}
 use Rattle.std.proofs.KnownBytes.{Consumes-nil}
-use Rattle.gf_run.proofs.Errors.{IfErr-only}
+use Rattle.gf_run.proofs.Errors.{only_error}
 use Rattle.gf_run.specs.Streams.{none}
 use Rattle.gf_run.proofs.streams.source.load.Goals as goal
 
@@ -12,7 +12,7 @@ loop-bytes-init g c = record {
 }
 
 pub returns-in_err-count-clause-part : goal.returns-in_err-count-clause-part
-returns-in_err-count-clause-part g c = IfErr-only _ _ _ c.from_residual.ensures.1
+returns-in_err-count-clause-part g c = only_error _ _ _ _ c.from_residual.ensures.1
     (c.in_err-count.ensures.next _ (rw c.as_slice.ensures.value c.loop-bytes.invariant.read))
 
 pub returns-then-count-eq0-clause-whole : goal.returns-then-count-eq0-clause-whole
@@ -44,7 +44,7 @@ returns-in_err-extend_from_slice-clause-part g c =
     let all = length-append c.loop-bytes.bytes.items came in
     let size = length-take c.in_ok-count.count c.pull_next.new.buffer in
     let next = rw c.as_slice.ensures.value at c.in_ok-count.ensures.next in
-    IfErr-only _ _ _ c.from_residual-in_err-extend_from_slice.ensures.1 (
+    only_error _ _ _ _ c.from_residual-in_err-extend_from_slice.ensures.1 (
       c.loop-bytes.bytes.items ++ came,
       omega (arith, all, size, c.in_ok-count.ensures.within, c.as_slice.ensures.len),
       (next _ c.loop-bytes.invariant.read).1 (omega arith),

@@ -6,45 +6,32 @@ pub returns-in-Err-clause-next : goal.returns-in-Err-clause-next
 returns-in-Err-clause-next g c = λ files is. (
   files,
   is,
-  (
-    _,
-    unopened c.in-Err.ensures refl refl (rw c.name_of-name.ensures at c.tell_unopened_of.ensures),
-  ),
+  unopened c.in-Err.ensures refl (rw c.name_of-name.ensures at c.tell_unopened_of.ensures),
 )
 
 pub returns-in-Ok-push-clause-next : goal.returns-in-Ok-push-clause-next
 returns-in-Ok-push-clause-next g c = λ files is. (
   files ++ record { name = c.name_of-name.result.now; hash = c.in-Ok-read_hash.hash } ∷ [],
   c.in-Ok-push.ensures files is,
-  (
-    Ok c.in-Ok-read_hash.hash,
-    opened _ _ _ c.in-Ok.ensures.0 c.in-Ok.ensures.1 (
-      refl,
-      ap (λ (name : List ℕ).
-          files ++ record { name = name; hash = c.in-Ok-read_hash.hash } ∷ [])
-          c.name_of-name.ensures,
-      c.in-Ok-read_hash.ensures,
-    ) (refl, refl),
-  ),
+  opened (Ok c.in-Ok-read_hash.hash) _ _ _ c.in-Ok.ensures.0 c.in-Ok.ensures.1 (
+    refl,
+    ap (λ (name : List ℕ). files ++ record { name = name; hash = c.in-Ok-read_hash.hash } ∷ [])
+        c.name_of-name.ensures,
+    c.in-Ok-read_hash.ensures,
+  ) (refl, refl),
 )
 
 pub returns-in-Ok-read_hash-clause-next : goal.returns-in-Ok-read_hash-clause-next
-returns-in-Ok-read_hash-clause-next g c = λ files is. (
-  refl,
-  (
-    c.in-Ok-read_hash.hash,
-    opened _ _ _ c.in-Ok.ensures.0 c.in-Ok.ensures.1 (refl, refl, c.in-Ok-read_hash.ensures)
-        (c.tell.ensures.status, (_, refl, c.tell.ensures.told)),
-  ),
-)
+returns-in-Ok-read_hash-clause-next g c = λ files is.
+    opened (Ok c.in-Ok-read_hash.hash) _ _ _ c.in-Ok.ensures.0 c.in-Ok.ensures.1
+    (refl, refl, c.in-Ok-read_hash.ensures)
+    (refl, (c.tell.ensures.status, (_, refl, c.tell.ensures.told)))
 
 pub returns-clause-next : goal.returns-clause-next
 returns-clause-next g c = λ files is. (
   files,
   is,
-  (
-    Err c.in-Err-read_hash.fault,
-    opened _ _ _ c.in-Ok.ensures.0 c.in-Ok.ensures.1 (refl, refl, c.in-Err-read_hash.ensures)
-        (rw (c.name_of-name.ensures, c.bytes.ensures) at c.tell_of.ensures),
-  ),
+  opened (Err c.in-Err-read_hash.fault) _ _ _ c.in-Ok.ensures.0 c.in-Ok.ensures.1
+      (refl, refl, c.in-Err-read_hash.ensures)
+      (rw (c.name_of-name.ensures, c.bytes.ensures) at c.tell_of.ensures),
 )

@@ -20,7 +20,7 @@ returns-in-Ok-without_games-clause-performed g c =
 
 pub returns-in-Ok-clause-performed : goal.returns-in-Ok-clause-performed
 returns-in-Ok-clause-performed g c = unlisted RunFault.Memory tt c.in-Ok.ensures.opened refl
-    (c.tell.ensures.status, c.tell.ensures.told)
+    (c.tell.ensures.status, (_, refl, c.tell.ensures.told))
 
 pub returns-clause-performed : goal.returns-clause-performed
 returns-clause-performed g c =

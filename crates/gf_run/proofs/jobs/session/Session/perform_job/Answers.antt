@@ -1,3 +1,4 @@
+use Rattle.std.proofs.Common.{◌≡◌, false}
 use Rattle.gf_run.proofs.jobs.session.Session.perform_job.Goals as goal
 
 pub returns-in-Canon-clause-performed : goal.returns-in-Canon-clause-performed
@@ -8,7 +9,12 @@ returns-in-Check-clause-performed g c = rw c.in-Check.is c.perform_one-in-Check.
 
 pub returns-in-Table-clause-performed : goal.returns-in-Table-clause-performed
 returns-in-Table-clause-performed g c =
-    rw c.in-Table.is (rw c.strategies_of.ensures at c.perform_one-in-Table.ensures.performed)
+    rw (c.in-Table.is, c.if-reduced.true) c.perform_one-in-Table.ensures.performed
+
+pub returns-in-Table-2-clause-performed : goal.returns-in-Table-2-clause-performed
+returns-in-Table-2-clause-performed g c =
+    let pure : c.in-Table-2.reduced ≡ false = cc in
+    rw (c.in-Table-2.is, pure) c.perform_one-in-Table-2.ensures.performed
 
 pub returns-in-Same-clause-performed : goal.returns-in-Same-clause-performed
 returns-in-Same-clause-performed g c = rw c.in-Same.is

@@ -1,7 +1,7 @@
 use Rattle.std.proofs.Common.{[], List}
 use Rattle.std.specs.Prelude.{◌≡◌}
-use Rattle.gf_run.specs.Performs.{HashesNext, IsOutOfMemory, IsSame, WritesGroups, reading}
-use Rattle.gf_run.specs.Performs.{world_of}
+use Rattle.gf_run.specs.Performs.{HashesNext, IsOutOfMemory, IsSame, WritesGroups}
+use Rattle.gf_run.specs.Performs.{with_output, world_of}
 use Rattle.gf_run.specs.Duplicates.{HashedFile, IsKeptOf}
 use Rattle.gf_run.proofs.Going.{IsOn}
 use Rattle.gf_run.proofs.jobs.session.Session.run_duplicates.Given as goal
@@ -17,5 +17,5 @@ invariant-loop-file g l = record {
       (IsOutOfMemory g.I.Inputs.opener g.I.Opened.Source.reader g.E.Sink.writer l.fn.self.explain
       l.names l.fn.self.output.now)
       (WritesGroups g.W.Sink.writer g.E.Sink.writer l.fn.self.explain l.end
-      l.fn.self.output.now) l.files l.file-index (reading [] (world_of l.fn.self)) l.worst (reading files (world_of l.self));
+      l.fn.self.output.now) l.files l.file-index (with_output [] (world_of l.fn.self)) l.worst (with_output files (world_of l.self));
 }

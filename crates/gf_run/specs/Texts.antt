@@ -1,0 +1,155 @@
+-- What is written about files that are read: the line of one of several, the text of a table, and
+-- whether two are the same.
+use Rattle.std.specs.Prelude.{◌≡◌, ◌≢◌, ◌↔◌, ℕ, Bool, true, false, IsTrue, nat_eq, ◌||◌, List, []}
+use Rattle.std.specs.Prelude.{◌∷◌, ◌++◌, codes, decimal, if◌then◌else◌}
+use Rattle.std.specs.List.{flat_map, list_any}
+use Rattle.hex.specs.Hex.{encode_lower}
+use Rattle.sha2.specs.Sha256.{sha256}
+use Rattle.gf_nfg.specs.Table.{Table}
+use Rattle.gf_nfg.specs.TableText.{table_text}
+use Rattle.gf_tree.specs.Renumbering.{Renumbering}
+use Rattle.gf_tree.specs.SameGame.{Carries, SameGame}
+use Rattle.gf_canon.specs.CanonicalText.{SpellsWithin}
+use Rattle.gf_canon.specs.GameFile.{GameFile}
+use Rattle.gf_canon.specs.KindOfFile.{MeansFileOf}
+use Rattle.gf_canon.specs.NamesAside.{IsTextBy}
+use Rattle.gf_canon.specs.Pairs.{renumbering_pairs}
+use Rattle.gf_canon.specs.declared.kind.FileKind.{FileKind}
+use Rattle.gf_canon.specs.declared.numbering.pairs.NumberPair.{NumberPair}
+use Rattle.gf_token.specs.declared.names.Names.{Names}
+use Rattle.gf_form.specs.Forms as forms
+use Rattle.gf_form.specs.declared.fault.FormFault.{FormFault}
+use Rattle.gf_form.specs.declared.forms.Strategies.{Strategies}
+use Rattle.gf_explain.specs.Shown.{shown_name}
+use Rattle.gf_words.specs.declared.job.LineEnd.{LineEnd}
+use Rattle.gf_run.specs.declared.collections.line.FileLine.{FileLine}
+
+-- ---- a name
+
+-- what ends a line
+abbrev pub end_text : LineEnd → List ℕ
+end_text LineEnd.LineFeed = codes "\n"
+end_text LineEnd.Null = 0 ∷ []
+
+-- a line feed, a carriage return or a backslash
+abbrev pub is_escaped : ℕ → Bool
+is_escaped byte = nat_eq byte 10 || nat_eq byte 13 || nat_eq byte 92
+
+-- a byte of a name, as `sha256sum` writes it
+abbrev pub byte_text : ℕ → List ℕ
+byte_text byte = if nat_eq byte 10 then codes "\\n" else if nat_eq byte 13 then codes "\\r"
+    else if nat_eq byte 92 then codes "\\\\" else byte ∷ []
+
+-- a name: in a line that NUL ends, as it is
+abbrev pub name_text : LineEnd → List ℕ → List ℕ
+name_text LineEnd.LineFeed name = flat_map byte_text name
+name_text LineEnd.Null name = name
+
+-- what the line of a name begins with: a backslash, if a byte of the name is escaped
+abbrev pub mark : LineEnd → List ℕ → List ℕ
+mark LineEnd.LineFeed name = if list_any is_escaped name then codes "\\" else []
+mark LineEnd.Null name = []
+
+-- the line of a name, after a text that stands before it
+abbrev pub name_line : LineEnd → List ℕ → List ℕ → List ℕ
+name_line end before name = mark end name ++ before ++ name_text end name ++ end_text end
+
+-- a text after the name of its file, as it is shown
+abbrev pub after_name : List ℕ → List ℕ → List ℕ
+after_name name text = shown_name name ++ codes ": " ++ text
+
+-- ---- the kind of a file
+
+-- the line for a file of this kind
+abbrev pub kind_line : FileKind → List ℕ
+kind_line FileKind.Tree = codes "tree\n"
+kind_line FileKind.Strategic = codes "table\n"
+
+-- the bytes mean a file of this kind, within the limit, and this is its line
+abbrev pub IsKindLine : FileKind → List ℕ → List ℕ → Type 0
+IsKindLine kind bytes text = MeansFileOf bytes kind × (text ≡ kind_line kind)
+
+-- ---- its canonical text
+
+-- the bytes mean a file, and this is the hash of its canonical text
+pub record IsHashOf (names : Names) (bytes hash : List ℕ) : Type 0 where
+  pub text : List ℕ
+  pub is_text : IsTextBy names bytes text
+  pub is_hash : hash ≡ sha256 text
+
+-- the bytes mean a file, and this says whether they are its canonical text
+abbrev pub AreCanonical : Names → List ℕ → Bool → Type 0
+AreCanonical names bytes true = IsTextBy names bytes bytes
+AreCanonical names bytes false = (text : List ℕ) × IsTextBy names bytes text × (bytes ≢ text)
+
+-- the text is what is written about a file of this name with these bytes; `good` is false if it is
+-- named because something is against it
+abbrev pub IsLineOf : FileLine → List ℕ → Bool → List ℕ → List ℕ → Type 0
+IsLineOf FileLine.Kind name good bytes text = (good ≡ true) × ((kind : FileKind)
+    × MeansFileOf bytes kind × (text ≡ after_name name (kind_line kind)))
+IsLineOf (FileLine.Hash names end) name good bytes text = (good ≡ true) × ((hash : List ℕ)
+    × IsHashOf names bytes hash × (text ≡ name_line end (encode_lower hash ++ codes "  ") name))
+IsLineOf (FileLine.NotCanonical names) name good bytes text = AreCanonical names bytes good
+    × (text ≡ if good then [] else name_line LineEnd.LineFeed [] name)
+
+-- ---- the table of a file, which is the form of a tree by some strategies, or the table itself
+
+-- the form of a game, if nothing rules it out; for a table, the table itself
+abbrev pub IsTableOfFile : Strategies → GameFile → Table → Type 0
+IsTableOfFile strategies (GameFile.extensive g) t = forms.IsFormOf strategies g t
+IsTableOfFile strategies (GameFile.strategic s) t = t ≡ s
+
+-- the bytes mean a file within the limit, and this is the canonical text of its table
+pub record IsFormText (strategies : Strategies) (bytes text : List ℕ) : Type 0 where
+  pub file : GameFile
+  pub spelled : SpellsWithin bytes file
+  pub table : Table
+  pub is_form : IsTableOfFile strategies file table
+  pub is_text : text ≡ table_text table
+
+-- why no table is made of a file; one that is a table always has one
+abbrev pub IsFileWithoutForm : Strategies → GameFile → FormFault → Type 0
+IsFileWithoutForm strategies (GameFile.extensive g) fault = forms.IsWithoutForm strategies g fault
+IsFileWithoutForm strategies (GameFile.strategic t) fault = ⊥
+
+-- ---- two files that are compared
+
+-- the line of an answer
+abbrev pub answer_line : Bool → List ℕ
+answer_line true = codes "same\n"
+answer_line false = codes "different\n"
+
+-- a number and its new number, after what they are of
+abbrev pub numbers_line : List ℕ → ℕ → ℕ → List ℕ
+numbers_line start number new_number =
+    start ++ codes " " ++ decimal number ++ codes " " ++ decimal new_number ++ codes "\n"
+
+-- `set P X Y` for a set of player P, and `outcome X Y` for an outcome
+abbrev pub pair_line : NumberPair → List ℕ
+pair_line (NumberPair.Set player number new_number) =
+    numbers_line (codes "set " ++ decimal player) number new_number
+pair_line (NumberPair.Outcome number new_number) = numbers_line (codes "outcome") number new_number
+
+-- only the line
+abbrev pub IsLine : GameFile → GameFile → Bool → List ℕ → Type 0
+IsLine x y same text = text ≡ answer_line same
+
+-- the line, followed, if two games are the same, by a line for each set and then one for each
+-- outcome, of each renumbering that carries the first to the second; so all of these have the same
+-- lines
+abbrev pub IsLineAndMap : GameFile → GameFile → Bool → List ℕ → Type 0
+IsLineAndMap (GameFile.extensive g) (GameFile.extensive h) true text = SameGame g h
+    × ((r : Renumbering) → Carries r g h
+    → text ≡ answer_line true ++ flat_map pair_line (renumbering_pairs r g))
+IsLineAndMap x y same text = IsLine x y same text
+
+-- the bytes mean two files, and this says whether they are the same, and this is its text
+pub record IsAnswer (Same : GameFile → GameFile → Type 0)
+    (IsText : GameFile → GameFile → Bool → List ℕ → Type 0) (same : Bool) (a b text : List ℕ)
+    : Type 0 where
+  pub first : GameFile
+  pub second : GameFile
+  pub first_spelled : SpellsWithin a first
+  pub second_spelled : SpellsWithin b second
+  pub same_exactly : IsTrue same ↔ Same first second
+  pub is_text : IsText first second same text
