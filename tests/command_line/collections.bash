@@ -157,7 +157,8 @@ check_hash_list() {
         "$scratch/missing: E20: cannot open $scratch/missing: No such file or directory (os error 2)" 4
     run hash --explain --files-from "$games"
     judge_refusal "hash --explain of a list that is a folder" \
-        "$games: E20: cannot read $games: Is a directory (os error 21)" 4
+        "$games: E20: cannot read $games: Is a directory (os error 21)
+  hint: \`check\`, \`hash\`, \`duplicates\`, \`canon --check\` and \`canon --write\` read folders" 4
     run duplicates --files-from - < <(printf '%s\n' "$five" "$scratch/copy.efg")
     judge_lines "duplicates of a list" 1 "$five" "$scratch/copy.efg"
 }

@@ -20,7 +20,8 @@ check_explain() {
     |                           ^^^
   hint: write 3, -0.5, 1e-3 or 1/3" 2
     run canon --explain "$root"
-    judge_refusal "canon --explain of a folder" "E20: cannot read $root: Is a directory (os error 21)" 4
+    judge_refusal "canon --explain of a folder" "E20: cannot read $root: Is a directory (os error 21)
+  hint: \`check\`, \`hash\`, \`duplicates\`, \`canon --check\` and \`canon --write\` read folders" 4
     run same --explain "$a" "$missing"
     judge_refusal "same --explain with a missing file" "$words" 4
     run same "$a" --explain "$b"

@@ -14,6 +14,10 @@ use gf_explain::{
 use std::alloc::{AllocError, Global};
 use std::io;
 
+/// The hint where a folder stands in the place of a file.
+const FOLDER_HINT: &[u8] =
+    b"  hint: `check`, `hash`, `duplicates`, `canon --check` and `canon --write` read folders";
+
 /// What the system says about a fault of an input or of the output.
 #[derive(Clone, Copy)]
 pub enum Cause {
@@ -92,6 +96,9 @@ fn failure_text(
             let reason = error.to_string(alloc)?;
             let (colon, reason) = (Part::Shown(b": "), Part::Shown(reason.as_bytes()));
             push_line(&mut text, &[words, name, colon, reason])?;
+            if error.kind() == io::ErrorKind::IsADirectory {
+                push_line(&mut text, &[Part::Shown(FOLDER_HINT)])?;
+            }
         }
         None => push_line(&mut text, &[words, name])?,
     }
@@ -100,7 +107,7 @@ fn failure_text(
 
 /// A fault in words: for a refusal, where it is, the line of the fault without its input, what is
 /// wrong, the line of the file with marks under the place, and a hint; for any other fault, its line
-/// and a sentence.
+/// and a sentence, and of a folder a hint.
 pub fn explanation(
     alloc: Global,
     fault: &RunFault,
