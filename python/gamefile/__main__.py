@@ -1,6 +1,7 @@
 """Runs commands of the program gamefile over the library: python -m gamefile COMMAND ..
 
-Output and exit statuses are those of the program; help and the messages about wrong usage are not.
+Output and exit statuses are those of the program; help, the messages about wrong usage and the hint about
+folders are not.
 """
 import argparse
 import os
@@ -15,6 +16,8 @@ from .errors import shown
 
 # The program reads no longer input; the library has no limit.
 LIMIT = 16_777_216
+# The hint where a folder stands in the place of a file. The program has more commands.
+FOLDER_HINT = "  hint: `check` and `hash` read folders"
 
 Answer = Callable[[str], str]
 Told = TypeVar("Told", bytes, str)
@@ -88,8 +91,9 @@ def in_words(failure: Exception, name: str, data: bytes) -> str:
     if isinstance(failure, Unwritten):
         return f"{line}: cannot write the output: {reason(failure.cause)}"
     if isinstance(failure, OSError):
-        verb = "read" if isinstance(failure, IsADirectoryError) else "open"
-        return f"{line}: cannot {verb} {shown(name)}: {reason(failure)}"
+        is_folder = isinstance(failure, IsADirectoryError)
+        words = f"{line}: cannot {'read' if is_folder else 'open'} {shown(name)}: {reason(failure)}"
+        return f"{words}\n{FOLDER_HINT}" if is_folder else words
     return f"{line}: out of memory"
 
 

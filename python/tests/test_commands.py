@@ -1,7 +1,7 @@
 """Tests python -m gamefile against the program: test_commands.py PROGRAM TESTS-FOLDER
 
-The same words and the same input have to give the same output, errors and status. The last line is
-'commands: N passed, M failed'.
+The same words and the same input have to give the same output, errors and status; but a hint names no command
+that the package lacks. The last line is 'commands: N passed, M failed'.
 """
 import os
 import subprocess
@@ -19,6 +19,8 @@ LIMIT = 16_777_216
 # One file in so many is enough here: test_gamefile.py goes through all of them.
 STEP = 29
 GAME = b'NFG 1 R "x" { "A" } { 2 } 1 2'
+# Which commands read folders: those of the program, and those of the package.
+FOLDER_COMMANDS = b"`check`, `hash`, `duplicates`, `canon --check` and `canon --write`", b"`check` and `hash`"
 
 
 def ran(start, words, **options):
@@ -29,7 +31,9 @@ def ran(start, words, **options):
 
 def judge(words, **options):
     """Compares a run of the package with one of the program, and gives what they write."""
-    expected, found = ran([PROGRAM], words, **options), ran(PACKAGE, words, **options)
+    output, errors, status = ran([PROGRAM], words, **options)
+    expected = output, errors.replace(*FOLDER_COMMANDS), status
+    found = ran(PACKAGE, words, **options)
     assert found == expected, f"{words}: {found} and not {expected}"[:1000]
     return expected
 
@@ -106,6 +110,7 @@ def test_other_commands_explain():
     for one in (*refused, files[0], "missing", "."):
         for other in (*refused, files[0], "missing"):
             judge_all([["same", "--explain", *option, one, other] for option in ([], ["--map"])])
+    assert FOLDER_COMMANDS[1] in judge(["canon", "--explain", "."])[1]
     judge(["hash", "--explain", *refused, "missing", "mis\x1b[31msing"])
     for words in (["canon"], ["table"], ["hash"], ["same", "/dev/null"]):
         judge([*words, "--explain", "-"], input=GAME[:-3])
