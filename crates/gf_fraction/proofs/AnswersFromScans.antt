@@ -16,7 +16,6 @@ use Rattle.gf_fraction.proofs.SpelledIsFound.{Unsigned, Unsigned-digits}
 use Rattle.gf_fraction.proofs.SpelledIsFound.{digit_unsigned, ascii_from_digit}
 use Rattle.gf_fraction.proofs.SpelledIsFound.{sign_split, scan_shape, capped_exponent, held}
 use Rattle.gf_fraction.proofs.FoundIsSpelled.{FoundNumber}
-use Rattle.gf_fraction.specs
 
 -- no shape begins with a sign
 Unsigned-append : (text more : List ℕ) → 0 < length text → Unsigned text → Unsigned (text ++ more)

@@ -22,7 +22,6 @@ use Rattle.gf_fraction.proofs.LeadingDigits.{leading_after, capped-after}
 use Rattle.gf_fraction.proofs.SpelledIsFound.{AllDigits-leading, AllDigits-append}
 use Rattle.gf_fraction.proofs.SpelledIsFound.{digits_value_after-append, held, capped_exponent}
 use Rattle.gf_fraction.proofs.SpelledIsFound.{capped_exponent-signed, exponent_if, rational_if}
-use Rattle.gf_fraction.specs
 
 -- a sign, or none, and the rest
 pub record HasSign (text : List ℕ) : Type 0 where

@@ -24,7 +24,6 @@ use Rattle.gf_fraction.proofs.LowestTerms.{one_fraction}
 use Rattle.gf_fraction.proofs.SpelledIsFound.{held}
 use Rattle.gf_fraction.proofs.AnswersFromScans.{scan_spelled, bounded_kept, bounded_held, zero_held}
 use Rattle.gf_fraction.proofs.AnswersFromScans.{zero_kept}
-use Rattle.gf_fraction.specs
 
 -- two readings of one text agree but for what is too large
 module _ (text : List ℕ) (m n : Bool) (x y : Reading) (hx : SpellsReading text m x)

@@ -25,7 +25,6 @@ use Rattle.gf_fraction.proofs.LowestTerms.{value_from}
 use Rattle.gf_fraction.proofs.PowersOfTen.{power_of_ten-above}
 use Rattle.gf_fraction.proofs.SpelledIsFound.{AllDigits-append, digit_from_ascii}
 use Rattle.gf_fraction.proofs.SpelledIsFound.{digits_value_after-append}
-use Rattle.gf_fraction.specs
 
 -- one more digit
 module _ (text : List ℕ) (i : ℕ) (within : i < length text)
