@@ -107,7 +107,7 @@ fn failure_text(
 
 /// A fault in words: for a refusal, where it is, the line of the fault without its input, what is
 /// wrong, the line of the file with marks under the place, and a hint; for any other fault, its line
-/// and a sentence, and of a folder a hint.
+/// and a sentence. Where a folder stands in the place of a file, it has a hint too.
 pub fn explanation(
     alloc: Global,
     fault: &RunFault,

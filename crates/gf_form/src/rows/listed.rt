@@ -37,9 +37,9 @@ fn denominator(path: Path, row: &[Fraction]) -> Option<u128> {
     path.den.checked_mul(least)
 }
 
-/// The least multiple of `start` and of these nodes' denominators; `None` if it is too large.
-fn common_denominator(nodes: &[Path], payoffs: &Payoffs<'_>, start: u128) -> Option<u128> {
-    let mut common = start;
+/// The least common multiple of these nodes' denominators; `None` if it is too large.
+fn common_denominator(nodes: &[Path], payoffs: &Payoffs<'_>) -> Option<u128> {
+    let mut common = 1;
     for node in nodes {
         let own = denominator(*node, payoffs.at(node.outcome))?;
         common = least_common_multiple(common, own)?;
@@ -106,7 +106,7 @@ fn push_nodes(
     demands: u64,
     nodes: &[Path],
     payoffs: &Payoffs<'_>,
-    common: u128,
+    den: u128,
 ) -> Result<(), AllocError>
     requires { IsShaped terms.old }
     ensures term { OnOk result
@@ -114,7 +114,6 @@ fn push_nodes(
     ensures shaped { OnOk result (IsShaped terms.new) }
     ensures players { terms.new.players ≡ terms.old.players }
 {
-    let den = common_denominator(nodes, payoffs, common).unwrap_or(0);
     let over = push_shares(&mut terms.numbers, nodes, payoffs, terms.players, den)?;
     terms.push_head(Head {
         demands,
@@ -163,13 +162,14 @@ impl Terms {
     }
 }
 
-/// The terms of nodes in order of demands, over this denominator if it serves.
+/// The terms of nodes in order of demands: over this denominator if it serves, or if there is none,
+/// each over the least that serves it.
 fn listed_over(
     alloc: Global,
     nodes: &[Path],
     payoffs: &Payoffs<'_>,
     players: usize,
-    common: u128,
+    common: Option<u128>,
 ) -> Result<Terms, AllocError>
     requires { IsNonDecreasingBy (λ (r : Path). r.demands) nodes.now }
     ensures terms { IfOk result (λ terms. (g : Game) → ArePaid g (rows_of payoffs.now)
@@ -182,8 +182,12 @@ fn listed_over(
     let mut start = 0;
     while start < nodes.len() {
         let end = alike_end(nodes, start);
-        let demands = nodes[start].demands;
-        push_nodes(&mut terms, demands, &nodes[start..end], payoffs, common)?;
+        let alike = &nodes[start..end];
+        let den = match common {
+            Some(den) => den,
+            None => common_denominator(alike, payoffs).unwrap_or(0),
+        };
+        push_nodes(&mut terms, nodes[start].demands, alike, payoffs, den)?;
         start = end;
     }
     Ok(terms)
@@ -204,13 +208,13 @@ fn listed(
     ensures shaped { IfOk result (λ terms. IsShaped terms) }
     ensures players { IfOk result (λ terms. terms.players ≡ players) }
 {
-    if let Some(common) = common_denominator(nodes, payoffs, 1) {
-        let terms = listed_over(alloc, nodes, payoffs, players, common)?;
+    if let Some(common) = common_denominator(nodes, payoffs) {
+        let terms = listed_over(alloc, nodes, payoffs, players, Some(common))?;
         if terms.fit_over(common) {
             return Ok(terms);
         }
     }
-    listed_over(alloc, nodes, payoffs, players, 1)
+    listed_over(alloc, nodes, payoffs, players, None)
 }
 
 /// The terms of a game.

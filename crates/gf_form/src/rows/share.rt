@@ -7,7 +7,7 @@ ghost use Rattle.gf_form.specs.inner.values.Rows.{at_place, row_at};
 ghost use Rattle.gf_form.specs.inner.rows.Shares.{IsShare, term_of};
 
 use crate::rows::paths::Path;
-use crate::rows::sums::factor;
+use crate::rows::sums::{factor, multiplied, times};
 use crate::values::payoffs::Payoffs;
 use gf_fraction::Fraction;
 
@@ -43,16 +43,10 @@ pub(crate) fn share_of(path: Path, payoff: Fraction, den: u128) -> Option<Share>
         });
     }
     let own = path.den.checked_mul(payoff.den())?;
-    let Ok(scale) = i128::try_from(factor(den, own)?) else {
-        return None;
-    };
-    let over = payoff.num().checked_mul(scale)?;
-    let Ok(weight) = i128::try_from(path.weight) else {
-        return None;
-    };
+    let over = multiplied(payoff.num(), factor(den, own)?)?;
     let share = Share {
-        amount: weight.checked_mul(over)?,
-        bound: path.bound.checked_mul(over.unsigned_abs())?,
+        amount: multiplied(over, path.weight)?,
+        bound: times(over.unsigned_abs(), path.bound)?,
     };
     if share.amount == i128::MIN {
         return None;

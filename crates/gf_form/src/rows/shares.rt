@@ -1,6 +1,6 @@
 //! The nodes that pay somebody something, among those that choices can reach.
 
-ghost use Rattle.std.specs.Prelude.{◌≡◌, ◌*◌, IfOk, IfSome, false, map, true};
+ghost use Rattle.std.specs.Prelude.{◌≡◌, IfOk, IfSome, false, map, true};
 ghost use Rattle.std.specs.List.Sorted.{IsNonDecreasingBy};
 ghost use Rattle.gf_form.specs.inner.rows.KeptNodes.{paid_reached};
 ghost use Rattle.gf_form.specs.inner.rows.SummedNodes.{HaveSharesOf, IsNodeSum, IsPathSum};
@@ -11,7 +11,7 @@ ghost use Rattle.gf_form.specs.declared.rows.paths.Path.{Path};
 use crate::rows::descent::{Descent, Steps};
 use crate::rows::digits::Digits;
 use crate::rows::paths::Path;
-use crate::rows::sums::scale_of;
+use crate::rows::sums::{scale_of, times};
 use crate::rows::terms::Head;
 use crate::values::payoffs::Payoffs;
 use gf_tree::Game;
@@ -30,17 +30,6 @@ fn head_of(path: Path) -> Head
         den: path.den,
         size: path.bound,
     }
-}
-
-/// A number times a factor, without a multiplication if that is 1; `None` if it does not fit.
-#[inline(always)]
-fn times(number: u128, by: u128) -> Option<u128>
-    ensures { IfSome result (λ product. product ≡ number * by) }
-{
-    if by == 1 {
-        return Some(number);
-    }
-    number.checked_mul(by)
 }
 
 /// What the nodes at the ends of two paths add together, if they demand the same and pay the same

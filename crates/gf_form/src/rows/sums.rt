@@ -1,7 +1,7 @@
 //! Sums of terms, which may be over different denominators.
 
-ghost use Rattle.std.specs.Prelude.{◌≡◌, ◌*ℤ◌, ◌+ℤ◌, IfSome, get_or, pos, ◌+◌, ◌<◌, IfOk, OnOk};
-ghost use Rattle.std.specs.Prelude.{length};
+ghost use Rattle.std.specs.Prelude.{◌≡◌, ◌*ℤ◌, ◌+ℤ◌, IfSome, get_or, pos, ◌+◌, ◌*◌, ◌<◌, IfOk};
+ghost use Rattle.std.specs.Prelude.{OnOk, length};
 ghost use Rattle.gf_fraction.specs.Ratio.{IsWithin};
 ghost use Rattle.gf_form.specs.inner.rows.TermLists.{IsFactor, IsScale, AreAlike, HasSum, IsShaped};
 ghost use Rattle.gf_form.specs.inner.rows.TermLists.{IsSumAt, all_terms, term_at};
@@ -107,11 +107,25 @@ fn number_at(numbers: &[i128], place: usize) -> i128
     }
 }
 
-/// A number times a factor; `None` if it does not fit.
+/// A number times a factor, without a multiplication if that is 1; `None` if it does not fit.
+#[inline(always)]
+pub(crate) fn times(number: u128, by: u128) -> Option<u128>
+    ensures { IfSome result (λ product. product ≡ number * by) }
+{
+    if by == 1 {
+        return Some(number);
+    }
+    number.checked_mul(by)
+}
+
+/// The same for a number with a sign.
 #[inline]
-fn multiplied(number: i128, by: u128) -> Option<i128>
+pub(crate) fn multiplied(number: i128, by: u128) -> Option<i128>
     ensures { IfSome result (λ product. product ≡ number *ℤ pos by) }
 {
+    if by == 1 {
+        return Some(number);
+    }
     let Ok(factor) = i128::try_from(by) else {
         return None;
     };
