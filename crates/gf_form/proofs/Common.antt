@@ -158,7 +158,7 @@ pub use Rattle.std.proofs.Math.Seq.{get_or-append_seam, drop-append_seam, take-a
 pub use Rattle.std.proofs.lemmas.Bool.{eqb-false, and_from, and_parts, eqb-true, false≢true, eq-eqb}
 pub use Rattle.std.proofs.lemmas.Bool.{false_from_ne_true, or_left, or_right, cases_lt, lt-ltb}
 pub use Rattle.std.proofs.lemmas.Bool.{ne_eqb, cases_Bool, ltb-false, cases_eq, ltb-true}
-pub use Rattle.std.proofs.lemmas.Fmt.{decimal_injective, decimal_by_steps}
+pub use Rattle.std.proofs.lemmas.Fmt.{decimal_injective, decimal_by_steps, decimal_digit}
 pub use Rattle.std.proofs.lemmas.Grind.{flat_map-append, get_or-set_at, common_steps}
 pub use Rattle.std.proofs.lemmas.Int.{ints, unsigned_abs-mul, fits_signed_from_abs, to_z-of_z}
 pub use Rattle.std.proofs.lemmas.List.{append_cancel_left, get_or_append_left, get_or-append-add}

@@ -2,6 +2,7 @@
 //! and what the players are paid if they choose given actions.
 #![tactic(auto)]
 
+mod division;
 mod fault;
 mod forms;
 pub mod laws;

@@ -12,6 +12,7 @@ ghost use Rattle.gf_form.specs.inner.reduced.Rows.{AreFound, HasRoom, HasRow, Ma
 ghost use Rattle.gf_form.specs.inner.reduced.Search.{ChooseInTurn, IsPlayer};
 ghost use Rattle.gf_form.specs.declared.reduced.labels.Found.{Found};
 
+use crate::division::divided;
 use crate::reduced::digits::OwnDigit;
 use crate::reduced::first::Player;
 use crate::reduced::level::Level;
@@ -45,6 +46,18 @@ pub(crate) struct Relevance {
     spare: SpareLevels,
 }
 
+/// The choice, from 0, at the slowest digit under the strategy with this number. There are `count`
+/// choices at the digits that are left, and `each` at all but this one.
+#[inline(always)]
+fn choice(number: u32, count: u32, each: u32) -> u32
+    requires count { 0 < count }
+    requires each { 0 < each }
+    ensures { result ≡ number % count / each }
+{
+    let (_, left) = divided(number, count);
+    divided(left, each).0
+}
+
 /// How many of these strategies, from the first one on, make this choice, from 0, at the slowest
 /// digit. There are `count` choices at the digits that are left, and `each` at all but this one.
 fn alike(strategies: &[Found], count: u32, each: u32, before: u32) -> usize
@@ -57,7 +70,7 @@ fn alike(strategies: &[Found], count: u32, each: u32, before: u32) -> usize
         → (get_or strategies.now 0 d).number % count / each ≡ before → 0 < result }
 {
     let mut end = 0;
-    while end < strategies.len() && strategies[end].number % count / each == before {
+    while end < strategies.len() && choice(strategies[end].number, count, each) == before {
         end += 1;
     }
     end
@@ -220,7 +233,7 @@ impl Relevance {
         let mut left = self.spare.level();
         let mut rest = strategies;
         while !rest.is_empty() {
-            let before = rest[0].number % count / each;
+            let before = choice(rest[0].number, count, each);
             let (own, others) = rest.split_at(alike(rest, count, each, before));
             left.choose(level, digit.step, u64::from(before) + 1)?;
             self.mark_below(player, faster, &left, own, each)?;

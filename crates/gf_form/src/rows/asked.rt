@@ -5,6 +5,7 @@ ghost use Rattle.std.specs.Prelude.{◌≡◌, ◌+◌, ◌/◌, ◌<◌, ◌≤
 ghost use Rattle.gf_form.specs.inner.rows.TermLists.{AreWithin};
 ghost use Rattle.gf_form.specs.inner.rows.SettledRows.{IsAsked, SettleBy};
 
+use crate::division::quotient;
 use crate::rows::chosen::Chosen;
 use crate::rows::digits::{Digit, Digits};
 use crate::rows::terms::Terms;
@@ -46,18 +47,6 @@ impl Asked<'_, '_, '_> {
         let last = self.numbers[run.to as usize - 1];
         last.saturating_sub(self.numbers[run.from as usize])
     }
-}
-
-/// The quotient. Quick if the divisor is 2, as most digits have two actions.
-#[inline(always)]
-fn divided(count: u32, by: u32) -> u32
-    requires { 0 < by }
-    ensures { result ≡ count / by }
-{
-    if by == 2 {
-        return count / 2;
-    }
-    count / by
 }
 
 /// Which part of this many numbers each, from 0, a number is in. Quick if it is this one.
@@ -131,7 +120,7 @@ impl Terms {
             (λ next. SettleBy asked.now self.new faster.now next.0) }
         ensures near { IfOk result (λ next. AreWithin terms.now.demands.items next.1) }
     {
-        let count = divided(run.count, slowest.actions);
+        let count = quotient(run.count, slowest.actions);
         let number = asked.numbers[run.from as usize] - run.first;
         let before = part_of(number, count, near.action);
         let first = run.first + before * count;

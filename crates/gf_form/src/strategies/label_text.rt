@@ -10,7 +10,7 @@ ghost use Rattle.gf_form.specs.inner.strategies.LabelTexts.{IsPlain, choice_text
 use itoa::Buffer;
 use std::alloc::AllocError;
 
-/// Appends the choice at a set to a text, or `*` if the set is not relevant.
+/// Appends the choice at a set to a text, or `*` if the set is not relevant. Quick for a digit.
 #[tactic(auto, using(crate::proofs::lemmas::strategies::StrategiesByNumber::choice_steps))]
 fn write_choice(is_relevant: bool, action: u32, text: &mut Vec<u8>) -> Result<(), AllocError>
     ensures text { OnOk result (text.new.items ≡ text.old.items
@@ -18,11 +18,13 @@ fn write_choice(is_relevant: bool, action: u32, text: &mut Vec<u8>) -> Result<()
     ensures plain { OnOk result (AllByRecursion IsPlain text.old.items
         → AllByRecursion IsPlain text.new.items) }
 {
-    if is_relevant {
+    if !is_relevant {
+        text.push(b'*')?;
+    } else if action < 10 {
+        text.push(b'0' + action as u8)?;
+    } else {
         let mut buffer = Buffer::new();
         text.extend_from_slice(buffer.format(action).as_bytes())?;
-    } else {
-        text.push(b'*')?;
     }
     Ok(())
 }

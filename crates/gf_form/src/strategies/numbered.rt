@@ -5,6 +5,7 @@ ghost use Rattle.std.specs.Prelude.{get_or, length, map};
 ghost use Rattle.gf_nfg.specs.Profiles.{product};
 ghost use Rattle.gf_form.specs.Strategies.{all_choices, strategy_label};
 
+use crate::division::quotient;
 use crate::strategies::label_text::write_label;
 use gf_nfg::Labels;
 use gf_token::Label;
@@ -26,7 +27,7 @@ pub(crate) fn write_strategy(
     let mut stride = whole;
     let mut rest = number;
     for count in counts {
-        stride /= *count;
+        stride = quotient(stride, *count);
         strategy.push(rest / stride + 1)?;
         rest %= stride;
     }

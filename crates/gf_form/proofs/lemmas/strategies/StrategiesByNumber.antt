@@ -6,7 +6,7 @@ use Common.{mul-div_cancel_left, All-from_recursion, decimal_injective, decimal_
 use Common.{slice_get-get_or, AllByRecursion, join_with_byte, strategy_label, if◌then◌else◌, Option}
 use Common.{reduced_label, slice_get-map, append_assoc, all_choices, choice_text, All-get_or, arith}
 use Common.{all_weaker, length-map, map-append, map_twice, mul_assoc, nat_tests, slice_get, IsPlain}
-use Common.{all_both, take-suc, add-one, decimal, product, get_or, length, mod-lt, false, shown, []}
+use Common.{all_both, take-suc, add-one, decimal, decimal_digit, product, get_or, length, mod-lt, false, shown, []}
 use Common.{subst, Bool, List, None, Some, drop, refl, take, true, zero, ◌++◌, ◌==◌, map, suc, sym}
 use Common.{◌%◌, ◌*◌, ◌+◌, ◌/◌, ◌<◌, ◌^◌, ◌∙◌, ◌∷◌, ◌≡◌, ◌≤◌, ap, ℕ}
 use Rattle.gf_token.specs.LabelSpelling.{is_spelling_after, IsLabel}
@@ -139,7 +139,7 @@ plain_label bytes h = plain_after 34 bytes refl h
 
 -- ---- what the steps of the code need
 
-pub ruleset choice_steps = (all_both, plain_number)
+pub ruleset choice_steps = (all_both, plain_number, decimal_digit)
 
 pub ruleset text_steps = (label_more, first_label, length-shown, all_both, take_past, plain_label)
 

@@ -81,11 +81,11 @@ mark_at-returns-then-last-digit t c = record {
       (rw c.deref-then-last-digit.ensures.value at c.mark_below-then-last-digit.ensures.marked);
 }
 
-pub mark_at-nonzero_rem-before : goal.mark_at-nonzero_rem-before
-mark_at-nonzero_rem-before t c = count_some c.requires.turn
+pub mark_at-choice-before-requires-clause-count : goal.mark_at-choice-before-requires-clause-count
+mark_at-choice-before-requires-clause-count t c = count_some c.requires.turn
 
-pub mark_at-nonzero_div-before : goal.mark_at-nonzero_div-before
-mark_at-nonzero_div-before t c = each_some c.requires.turn
+pub mark_at-choice-before-requires-clause-each : goal.mark_at-choice-before-requires-clause-each
+mark_at-choice-before-requires-clause-each t c = each_some c.requires.turn
 
 pub mark_at-alike-requires-clause-count : goal.mark_at-alike-requires-clause-count
 mark_at-alike-requires-clause-count t c = count_some c.requires.turn
@@ -94,7 +94,8 @@ pub mark_at-alike-requires-clause-each : goal.mark_at-alike-requires-clause-each
 mark_at-alike-requires-clause-each t c = each_some c.requires.turn
 
 pub mark_at-choose-requires-clause-fits : goal.mark_at-choose-requires-clause-fits
-mark_at-choose-requires-clause-fits t c = action_fits c.requires.turn _ _ c.from.ensures
+mark_at-choose-requires-clause-fits t c =
+    action_fits c.requires.turn _ _ (c.from.ensures ∙ c.choice-before.ensures)
 
 pub mark_at-mark_below-requires-in-loop-rest : goal.mark_at-mark_below-requires-in-loop-rest
 mark_at-mark_below-requires-in-loop-rest t c =

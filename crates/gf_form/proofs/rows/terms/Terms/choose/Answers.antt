@@ -5,17 +5,17 @@ use Rattle.gf_form.proofs.rows.terms.Terms.choose.Goals as goal
 pub part_of-before-requires : goal.part_of-before-requires
 part_of-before-requires c =
     some_stride c.args.asked.now c.args.run c.requires.some c.requires.settled
-    c.divided-count.ensures
+    c.quotient-count.ensures
 
 pub next-chosen-requires-clause-fits : goal.next-chosen-requires-clause-fits
 next-chosen-requires-clause-fits c =
     rw c.from-action.ensures (step_within c.args.asked.now c.args.run c.requires.some
-    c.requires.settled c.divided-count.ensures c.part_of-before.ensures)
+    c.requires.settled c.quotient-count.ensures c.part_of-before.ensures)
 
 pub merge-requires-clause-within : goal.merge-requires-clause-within
 merge-requires-clause-within c =
     rw c.from-action.ensures (step_within c.args.asked.now c.args.run c.requires.some
-    c.requires.settled c.divided-count.ensures c.part_of-before.ensures)
+    c.requires.settled c.quotient-count.ensures c.part_of-before.ensures)
 
 pub merge-requires-clause-chosen : goal.merge-requires-clause-chosen
 merge-requires-clause-chosen c = rw c.deref.ensures.value at c.next-chosen.ensures.chosen
@@ -23,7 +23,7 @@ merge-requires-clause-chosen c = rw c.deref.ensures.value at c.next-chosen.ensur
 pub returns-clause-settled : goal.returns-clause-settled
 returns-clause-settled c =
     settled_next c.args.asked.now c.args.run c.requires.some c.requires.settled
-    c.divided-count.ensures c.part_of-before.ensures c.run_end-to.result c.merge.new.self
+    c.quotient-count.ensures c.part_of-before.ensures c.run_end-to.result c.merge.new.self
     (rw c.from-action.ensures at c.in_ok-merge.ensures.merged) (
       c.in_ok-merge.ensures.order,
       c.in_ok-merge.ensures.players ∙ c.requires.players ∙ c.requires.settled.are_terms.1,
