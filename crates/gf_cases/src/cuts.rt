@@ -3,10 +3,9 @@
 
 use crate::cases::Cases;
 use crate::games::*;
+use crate::given::{with_table, with_tree};
 use gf_canon::canonical;
-use gf_nfg::read_nfg;
 use gf_token::{Cursor, Fault, Span, What, Why};
-use gf_tree::read_efg;
 use std::alloc::Global;
 
 /// The refusal of the tree of nobody that is cut at each place before its end.
@@ -42,9 +41,9 @@ fn refusal(alloc: Global, file: &[u8]) -> Option<Fault> {
 /// The refusal by the reader of the file's own format.
 fn refusal_by_reader(alloc: Global, file: &[u8], is_tree: bool) -> Option<Fault> {
     if is_tree {
-        read_efg(alloc, file).err()
+        with_tree(alloc, file, |_| ()).err()
     } else {
-        read_nfg(alloc, file).err()
+        with_table(alloc, file, |_| ()).err()
     }
 }
 

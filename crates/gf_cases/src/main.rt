@@ -5,6 +5,7 @@ mod calls;
 mod cases;
 mod cuts;
 mod games;
+mod given;
 mod memory;
 mod numbers;
 mod payoffs;

@@ -2,9 +2,10 @@
 
 use crate::cases::Cases;
 use crate::games::{BONUS, NOBODY, OVERFLOWING, UNLIKELY, UNLIKELY_AND_GREAT};
+use crate::given::with_tree;
 use gf_form::{EvalFault, are_strategies, expected};
 use gf_fraction::Fraction;
-use gf_tree::{Game, read_efg};
+use gf_tree::Game;
 use std::alloc::{AllocError, Global};
 
 /// An action at each set of each player.
@@ -79,15 +80,20 @@ fn are_payoffs(payoffs: &[Fraction], parts: &[(i128, u128)]) -> bool {
         .eq(parts.iter().copied())
 }
 
-fn pays(alloc: Global, file: &[u8], choices: &[&[u32]], parts: Option<&[(i128, u128)]>) -> bool {
-    let Ok(game) = read_efg(alloc, file) else {
-        return false;
-    };
-    match (paid_at(alloc, &game, choices), parts) {
-        (Ok(Some(Ok(payoffs))), Some(parts)) => are_payoffs(payoffs.as_slice(), parts),
-        (Ok(Some(Err(EvalFault::Overflow))), None) => true,
-        _ => false,
+/// Whether this is paid, or nothing if a value on the way overflows.
+fn is_paid(answer: Result<Vec<Fraction>, EvalFault>, expected: Option<&[(i128, u128)]>) -> bool {
+    match answer {
+        Ok(payoffs) => expected.is_some_and(|parts| are_payoffs(payoffs.as_slice(), parts)),
+        Err(EvalFault::Overflow) => expected.is_none(),
+        Err(EvalFault::Memory) => false,
     }
+}
+
+fn pays(alloc: Global, file: &[u8], choices: &[&[u32]], parts: Option<&[(i128, u128)]>) -> bool {
+    with_tree(alloc, file, |game| match paid_at(alloc, game, choices) {
+        Ok(Some(answer)) => is_paid(answer, parts),
+        Ok(None) | Err(AllocError) => false,
+    }) == Ok(true)
 }
 
 /// A tree with a single path, on which each of many moves pays one half.

@@ -2,13 +2,14 @@
 
 use crate::cases::Cases;
 use crate::games::*;
+use crate::given::with_tree;
 use crate::memory::made_table;
 use gf_canon::{Names, canonical, same, same_by};
 use gf_form::{FormFault, table, table_reduced};
 use gf_nfg::{Table, write_nfg};
 use gf_run::{Counted, RunFault, Which, status, write_fault};
 use gf_token::{Fault, Span, Why};
-use gf_tree::{Game, read_efg};
+use gf_tree::Game;
 use std::alloc::Global;
 
 static CANONICAL: [(&[u8], &[u8]); 10] = [
@@ -51,17 +52,11 @@ static FORMS: [(&[u8], &[u8], &[u8]); 6] = [
 ];
 
 fn has_text(alloc: Global, file: &[u8], text: &[u8]) -> bool {
-    match canonical(alloc, file) {
-        Ok(found) => found.as_slice() == text,
-        Err(_) => false,
-    }
+    canonical(alloc, file).is_ok_and(|found| found.as_slice() == text)
 }
 
 fn stays(alloc: Global, file: &[u8]) -> bool {
-    match canonical(alloc, file) {
-        Ok(text) => has_text(alloc, text.as_slice(), text.as_slice()),
-        Err(_) => false,
-    }
+    canonical(alloc, file).is_ok_and(|text| has_text(alloc, text.as_slice(), text.as_slice()))
 }
 
 fn are_same(alloc: Global, a: &[u8], b: &[u8]) -> Option<bool> {
@@ -80,19 +75,14 @@ fn is_compared(alloc: Global, a: &[u8], b: &[u8], kept: bool, aside: bool) -> bo
 
 /// Whether a table was made and has this text.
 fn is_written_as(alloc: Global, made: Result<Table, FormFault>, text: &[u8]) -> bool {
-    let Ok(table) = made else {
-        return false;
-    };
     let mut out = Vec::new(alloc);
-    write_nfg(&table, &mut out).is_ok() && out.as_slice() == text
+    made.is_ok_and(|table| write_nfg(&table, &mut out).is_ok()) && out.as_slice() == text
 }
 
 /// Whether the table of Selten, made of its parts, has the text of its file.
 fn is_made_as_read(alloc: Global) -> bool {
-    match made_table(alloc) {
-        Ok(table) => is_written_as(alloc, Ok(table), SELTEN_TEXT),
-        Err(_) => false,
-    }
+    let made = made_table(alloc).map_err(|_| FormFault::Memory);
+    is_written_as(alloc, made, SELTEN_TEXT)
 }
 
 fn has_forms(alloc: Global, game: &Game<'_>, form: &[u8], reduced: &[u8]) -> bool {
@@ -104,10 +94,7 @@ fn has_forms(alloc: Global, game: &Game<'_>, form: &[u8], reduced: &[u8]) -> boo
 }
 
 fn tree_has_forms(alloc: Global, file: &[u8], form: &[u8], reduced: &[u8]) -> bool {
-    match read_efg(alloc, file) {
-        Ok(game) => has_forms(alloc, &game, form, reduced),
-        Err(_) => false,
-    }
+    with_tree(alloc, file, |game| has_forms(alloc, game, form, reduced)) == Ok(true)
 }
 
 /// Whether the greatest place is written whole, and has its status.

@@ -5,11 +5,11 @@ use crate::games::{
     BONUS, FIVE, FIVE_BY_OTHER_NUMBERS, FIVE_TEXT, FIVE_TEXT_BY_OTHER_NUMBERS, NULL_OUTCOME,
     NULL_OUTCOME_BY_PAYOFFS, ONE_SET, SELTEN, TWO_SETS,
 };
+use crate::given::{with_table, with_tree};
 use crate::memory::by_other_numbers;
 use gf_canon::{Renumbering, renumber, renumbering, write_efg};
 use gf_fraction::Fraction;
-use gf_nfg::read_nfg;
-use gf_tree::{Branch, Game, Step, read_efg};
+use gf_tree::{Branch, Game, Step};
 use std::alloc::{AllocError, Global};
 
 /// The outcome numbers of `BONUS` in prefix order.
@@ -58,14 +58,10 @@ fn has_children(game: &Game<'_>, way: &[usize], children: usize) -> bool {
     }
 }
 
-fn nodes(alloc: Global, cases: &mut Cases) {
-    let Ok(game) = read_efg(alloc, BONUS) else {
-        cases.add("a tree", false);
-        return;
-    };
-    cases.add("its outcomes", have_outcomes(&game, &OUTCOMES));
+fn nodes(game: &Game<'_>, cases: &mut Cases) {
+    cases.add("its outcomes", have_outcomes(game, &OUTCOMES));
     for (way, children) in &CHILDREN {
-        cases.add("its children", has_children(&game, way, *children));
+        cases.add("its children", has_children(game, way, *children));
     }
 }
 
@@ -119,68 +115,51 @@ fn has_branches(game: &Game<'_>) -> bool {
     }
 }
 
-fn holdings(alloc: Global, cases: &mut Cases) {
-    let Ok(game) = read_efg(alloc, FIVE) else {
-        cases.add("a tree", false);
-        return;
-    };
-    cases.add("its set", has_set(&game));
-    cases.add("its outcome", has_outcome(&game));
-    cases.add("its root and its last node", has_root_and_end(&game));
-    cases.add("its branches", has_branches(&game));
+fn holdings(game: &Game<'_>, cases: &mut Cases) {
+    cases.add("its set", has_set(game));
+    cases.add("its outcome", has_outcome(game));
+    cases.add("its root and its last node", has_root_and_end(game));
+    cases.add("its branches", has_branches(game));
 }
 
 /// Whether a game was made and has this text by its own numbers.
 fn is_written_as(alloc: Global, made: Result<Game<'_>, AllocError>, text: &[u8]) -> bool {
-    let Ok(game) = made else {
-        return false;
-    };
     let mut out = Vec::new(alloc);
-    write_efg(&game, &mut out).is_ok() && out.as_slice() == text
+    made.is_ok_and(|game| write_efg(&game, &mut out).is_ok()) && out.as_slice() == text
 }
 
 fn numbers_by_first_use(alloc: Global) -> bool {
-    match read_efg(alloc, FIVE_BY_OTHER_NUMBERS) {
-        Ok(game) => is_written_as(alloc, renumber(alloc, &game), FIVE_TEXT),
-        Err(_) => false,
-    }
-}
-
-/// Whether the tree by other numbers is written by these.
-fn keeps_numbers(alloc: Global) -> bool {
-    match read_efg(alloc, FIVE_BY_OTHER_NUMBERS) {
-        Ok(game) => is_written_as(alloc, Ok(game), FIVE_TEXT_BY_OTHER_NUMBERS),
-        Err(_) => false,
-    }
+    with_tree(alloc, FIVE_BY_OTHER_NUMBERS, |game| {
+        is_written_as(alloc, renumber(alloc, game), FIVE_TEXT)
+    }) == Ok(true)
 }
 
 /// Whether the tree is written by the numbers that it is given.
 fn takes_numbers(alloc: Global) -> bool {
-    let Ok(game) = read_efg(alloc, FIVE) else {
-        return false;
-    };
-    match by_other_numbers(alloc, &game) {
-        Ok(copy) => is_written_as(alloc, Ok(copy), FIVE_TEXT_BY_OTHER_NUMBERS),
-        Err(_) => false,
-    }
+    with_tree(alloc, FIVE, |game| {
+        let made = by_other_numbers(alloc, game).map_err(|_| AllocError);
+        is_written_as(alloc, made, FIVE_TEXT_BY_OTHER_NUMBERS)
+    }) == Ok(true)
 }
 
-/// The renumbering between two trees; `Err` if there is no answer.
-fn between(alloc: Global, a: &[u8], b: &[u8]) -> Result<Option<Renumbering>, ()> {
-    let (Ok(first), Ok(second)) = (read_efg(alloc, a), read_efg(alloc, b)) else {
-        return Err(());
-    };
-    match renumbering(alloc, &first, &second) {
-        Ok(found) => Ok(found),
-        Err(_) => Err(()),
-    }
+/// Whether two trees are read, and this holds of the renumbering between them.
+fn is_between<F: FnOnce(Option<&Renumbering>) -> bool>(
+    alloc: Global,
+    a: &[u8],
+    b: &[u8],
+    is_right: F,
+) -> bool
+    requires { F.IsAlwaysCallable is_right }
+{
+    with_tree(alloc, a, |first| {
+        with_tree(alloc, b, |second| match renumbering(alloc, first, second) {
+            Ok(found) => is_right(found.as_ref()),
+            Err(AllocError) => false,
+        }) == Ok(true)
+    }) == Ok(true)
 }
 
-fn new_numbers(alloc: Global, cases: &mut Cases) {
-    let Ok(Some(new)) = between(alloc, FIVE, FIVE_BY_OTHER_NUMBERS) else {
-        cases.add("a renumbering", false);
-        return;
-    };
+fn new_numbers(new: &Renumbering, cases: &mut Cases) {
     cases.add("set 0 9", new.set(0, 9) == Some(2));
     cases.add("set 1 7", new.set(1, 7) == Some(3));
     cases.add("set 1 3", new.set(1, 3) == Some(8));
@@ -192,49 +171,43 @@ fn new_numbers(alloc: Global, cases: &mut Cases) {
 }
 
 fn has_none(alloc: Global, a: &[u8], b: &[u8]) -> bool {
-    match between(alloc, a, b) {
-        Ok(found) => found.is_none(),
-        Err(()) => false,
-    }
+    is_between(alloc, a, b, |found| found.is_none())
 }
 
-fn agree(alloc: Global, a: &[u8], b: &[u8]) -> Option<bool> {
-    match (read_nfg(alloc, a), read_nfg(alloc, b)) {
-        (Ok(first), Ok(second)) => Some(first.play_agrees(&second)),
-        _ => None,
-    }
+/// Whether two tables are read, and agree or not, as they should.
+fn agree(alloc: Global, a: &[u8], b: &[u8], expected: bool) -> bool {
+    with_table(alloc, a, |first| {
+        with_table(alloc, b, |second| first.play_agrees(second)) == Ok(expected)
+    }) == Ok(true)
 }
 
-fn agreement(alloc: Global, cases: &mut Cases) {
-    let (outcomes, payoffs) = (NULL_OUTCOME, NULL_OUTCOME_BY_PAYOFFS);
-    cases.add(
-        "tables that agree",
-        agree(alloc, outcomes, payoffs) == Some(true),
-    );
-    cases.add(
-        "in the other order",
-        agree(alloc, payoffs, outcomes) == Some(true),
-    );
-    cases.add(
-        "tables that differ",
-        agree(alloc, SELTEN, outcomes) == Some(false),
-    );
-    cases.add(
-        "in the other order",
-        agree(alloc, outcomes, SELTEN) == Some(false),
-    );
-}
+/// Tables, whether they agree.
+static AGREEMENTS: [(&[u8], &[u8], bool); 2] = [
+    (NULL_OUTCOME, NULL_OUTCOME_BY_PAYOFFS, true),
+    (SELTEN, NULL_OUTCOME, false),
+];
 
 pub fn trees(alloc: Global) -> Cases {
     let mut cases = Cases::new();
-    nodes(alloc, &mut cases);
-    holdings(alloc, &mut cases);
+    let read = with_tree(alloc, BONUS, |game| nodes(game, &mut cases));
+    cases.add("a tree with bonuses", read == Ok(()));
+    let read = with_tree(alloc, FIVE, |game| holdings(game, &mut cases));
+    cases.add("a tree", read == Ok(()));
     cases.add("numbers by first use", numbers_by_first_use(alloc));
-    cases.add("numbers that stay", keeps_numbers(alloc));
     cases.add("numbers that are given", takes_numbers(alloc));
-    new_numbers(alloc, &mut cases);
+    let found = is_between(alloc, FIVE, FIVE_BY_OTHER_NUMBERS, |found| match found {
+        Some(new) => {
+            new_numbers(new, &mut cases);
+            true
+        }
+        None => false,
+    });
+    cases.add("a renumbering", found);
     cases.add("no renumbering", has_none(alloc, ONE_SET, TWO_SETS));
     cases.add("in the other order", has_none(alloc, TWO_SETS, ONE_SET));
-    agreement(alloc, &mut cases);
+    for (a, b, expected) in &AGREEMENTS {
+        cases.add("two tables", agree(alloc, a, b, *expected));
+        cases.add("in the other order", agree(alloc, b, a, *expected));
+    }
     cases
 }

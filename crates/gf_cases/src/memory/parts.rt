@@ -1,48 +1,59 @@
 //! Fractions, labels and tables that are written or made.
 
 use crate::games::{SELTEN, SELTEN_TEXT};
+use crate::given::with_table;
 use crate::memory::Came;
+use crate::memory::texts::right_if;
 use gf_fraction::Fraction;
-use gf_nfg::{Table, read_nfg, write_nfg};
+use gf_nfg::{Table, write_nfg};
 use gf_token::{Label, write_label};
 use std::alloc::{AllocError, Global};
 
 /// What an output holds before it is written to.
-pub const BEFORE: &[u8] = b"; ";
+const BEFORE: &[u8] = b"; ";
 
 /// What came of a call that writes this after what its output holds.
-pub fn came_of(answer: Result<(), AllocError>, out: &[u8], text: &[u8]) -> Came {
-    match answer {
-        Ok(()) if out.strip_prefix(BEFORE) == Some(text) => Came::Right,
-        Err(AllocError) if out == BEFORE => Came::OutOfMemory,
+pub fn came_of<F: FnOnce(&mut Vec<u8>) -> Result<(), AllocError>>(
+    alloc: Global,
+    text: &[u8],
+    call: F,
+) -> Came
+    requires { F.IsAlwaysCallable call }
+{
+    let Ok(mut out) = Vec::from_slice(alloc, BEFORE) else {
+        return Came::NotMade;
+    };
+    match call(&mut out) {
+        Ok(()) if out.as_slice().strip_prefix(BEFORE) == Some(text) => Came::Right,
+        Err(AllocError) if out.as_slice() == BEFORE => Came::OutOfMemory,
         _ => Came::Wrong,
     }
 }
 
 pub fn write_fraction(alloc: Global) -> Came {
     let text: &[u8] = b"-1/170141183460469231731687303715884105727";
-    let (Ok(fraction), Ok(mut out)) = (Fraction::read(text), Vec::from_slice(alloc, BEFORE)) else {
-        return Came::NotMade;
-    };
-    let answer = fraction.write(&mut out);
-    came_of(answer, out.as_slice(), text)
+    match Fraction::read(text) {
+        Ok(fraction) => came_of(alloc, text, |out| fraction.write(out)),
+        Err(_) => Came::NotMade,
+    }
 }
 
 pub fn write_text(alloc: Global) -> Came {
-    let spelling: &[u8] = b"say \\\"hi\\\" \\a";
-    let (Some(label), Ok(mut out)) = (Label::new(spelling), Vec::from_slice(alloc, BEFORE)) else {
-        return Came::NotMade;
-    };
-    let answer = write_label(label, &mut out);
-    came_of(answer, out.as_slice(), b"\"say \\\"hi\\\" \\a\"")
+    match Label::new(b"say \\\"hi\\\" \\a") {
+        Some(label) => came_of(
+            alloc,
+            b"\"say \\\"hi\\\" \\a\"",
+            |out| write_label(label, out),
+        ),
+        None => Came::NotMade,
+    }
 }
 
 pub fn write_table(alloc: Global) -> Came {
-    let (Ok(table), Ok(mut out)) = (read_nfg(alloc, SELTEN), Vec::from_slice(alloc, BEFORE)) else {
-        return Came::NotMade;
-    };
-    let answer = write_nfg(&table, &mut out);
-    came_of(answer, out.as_slice(), SELTEN_TEXT)
+    with_table(alloc, SELTEN, |table| {
+        came_of(alloc, SELTEN_TEXT, |out| write_nfg(table, out))
+    })
+    .unwrap_or(Came::NotMade)
 }
 
 /// The table with these strategies of its first player, of which the second has two, made of its
@@ -60,17 +71,15 @@ fn made<'a>(
         return Err(Came::NotMade);
     };
     let payoffs = [1, 1, 0, 2, 0, 2, 1, 1, 0, 3, 2, 0].map(|n| Fraction::whole(false, n));
-    match Table::new(
+    Table::new(
         alloc,
         title,
         comment,
         &[row, column],
         &[first, second],
         &payoffs,
-    ) {
-        Ok(table) => Ok(table),
-        Err(AllocError) => Err(Came::OutOfMemory),
-    }
+    )
+    .map_err(|_| Came::OutOfMemory)
 }
 
 /// The table of Selten.
@@ -108,8 +117,7 @@ fn has_payoffs(t: &Table) -> bool {
 
 pub fn make_table(alloc: Global) -> Came {
     match made_table(alloc) {
-        Ok(table) if has_names(&table) && has_payoffs(&table) => Came::Right,
-        Ok(_) => Came::Wrong,
+        Ok(table) => right_if(has_names(&table) && has_payoffs(&table)),
         Err(came) => came,
     }
 }

@@ -4,12 +4,12 @@ use crate::games::{
     FIVE, FIVE_BY_OTHER_NUMBERS, FIVE_TEXT, ONE_OUTCOME, ONE_OUTCOME_RENAMED, SELTEN_BY_OUTCOMES,
     SELTEN_TEXT,
 };
+use crate::given::{with_table, with_tree};
 use crate::memory::Came;
 use gf_canon::{Names, SameFault, canonical, same, same_by};
 use gf_fraction::Fraction;
-use gf_nfg::read_nfg;
 use gf_token::{Fault, Why};
-use gf_tree::{Game, read_efg};
+use gf_tree::Game;
 use std::alloc::Global;
 
 /// What came of a call that refused a file which is right.
@@ -24,12 +24,19 @@ pub fn right_if(is_right: bool) -> Came {
     if is_right { Came::Right } else { Came::Wrong }
 }
 
-pub fn read_table(alloc: Global) -> Came {
-    let payoffs = [Fraction::zero(), Fraction::whole(false, 3)];
-    match read_nfg(alloc, SELTEN_BY_OUTCOMES) {
-        Ok(table) => right_if(table.payoffs(&[2, 2]) == Some(payoffs.as_slice())),
+/// What came of a call that reads a file, if this holds of what it read.
+fn came_of_reading(is_right: Result<bool, Fault>) -> Came {
+    match is_right {
+        Ok(is_right) => right_if(is_right),
         Err(fault) => came_of_fault(fault),
     }
+}
+
+pub fn read_table(alloc: Global) -> Came {
+    let payoffs = [Fraction::zero(), Fraction::whole(false, 3)];
+    came_of_reading(with_table(alloc, SELTEN_BY_OUTCOMES, |table| {
+        table.payoffs(&[2, 2]) == Some(payoffs.as_slice())
+    }))
 }
 
 fn has_numbers(game: &Game<'_>) -> bool {
@@ -40,10 +47,7 @@ fn has_numbers(game: &Game<'_>) -> bool {
 }
 
 pub fn read_tree(alloc: Global) -> Came {
-    match read_efg(alloc, FIVE) {
-        Ok(game) => right_if(has_numbers(&game)),
-        Err(fault) => came_of_fault(fault),
-    }
+    came_of_reading(with_tree(alloc, FIVE, has_numbers))
 }
 
 fn canonise(alloc: Global, file: &[u8], text: &[u8]) -> Came {
