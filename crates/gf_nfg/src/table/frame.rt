@@ -46,8 +46,7 @@ impl Frame {
         }) }
     {
         let mut title_and_comment = Labels::new(alloc);
-        title_and_comment.push(title)?;
-        title_and_comment.push(comment)?;
+        title_and_comment.extend(&[title, comment])?;
         let mut names = Labels::new(alloc);
         names.extend(players)?;
         Ok(Frame {

@@ -63,7 +63,7 @@ fn give_to(file: &File, found: &Metadata) -> Result<(), io::Error> {
 }
 
 /// Writes a text to a file, unless it is longer than what the program reads.
-fn fill(file: File, mut text: TextPieces) -> Result<(), io::Error> {
+fn fill(file: &mut File, text: &mut TextPieces) -> Result<(), io::Error> {
     let mut output = Counted::new(file);
     let mut room = LIMIT;
     while text.advance() {
@@ -79,24 +79,37 @@ fn fill(file: File, mut text: TextPieces) -> Result<(), io::Error> {
     Ok(())
 }
 
-/// Puts a text in the place of the file of this name, through links, and with its owner and its
-/// permissions. Only a file can be replaced, no pipe or device, and only by a text that can be read
-/// again.
-pub fn replace(rt: &HostRuntime, name: &str, text: TextPieces) -> Result<(), Unreplaced> {
-    let path = fs::canonicalize(rt, name)?.into_string();
-    let path = path.as_str();
+/// Fills a new file with a text, and gives it the place of the one at this path.
+fn put(
+    rt: &HostRuntime,
+    path: &str,
+    found: &Metadata,
+    new: &mut NewFile,
+    text: &mut TextPieces,
+) -> Result<(), io::Error> {
+    give_to(&new.file, found)?;
+    fill(&mut new.file, text)?;
+    fs::rename(rt, new.path.as_str(), path)
+}
+
+/// Puts a text in the place of the file at this path, which is no link.
+fn replace_at(rt: &HostRuntime, path: &str, text: &mut TextPieces) -> Result<(), Unreplaced> {
     let found = fs::metadata(rt, path)?;
     if !found.is_file() {
         return Err(Unreplaced::System(io::Error::from(ErrorKind::InvalidInput)));
     }
-    let NewFile { path: new, file } = new_file_beside(rt, path)?;
-    let new = new.as_str();
-    let done = give_to(&file, &found)
-        .and_then(|()| fill(file, text))
-        .and_then(|()| fs::rename(rt, new, path));
-    if let Err(error) = done {
-        let _ = fs::remove_file(rt, new);
+    let mut new = new_file_beside(rt, path)?;
+    if let Err(error) = put(rt, path, &found, &mut new, text) {
+        let _ = fs::remove_file(rt, new.path.as_str());
         return Err(Unreplaced::from(error));
     }
     Ok(())
+}
+
+/// Puts a text in the place of the file of this name, through links, and with its owner and its
+/// permissions. Only a file can be replaced, no pipe or device, and only by a text that can be read
+/// again.
+pub fn replace(rt: &HostRuntime, name: &str, mut text: TextPieces) -> Result<(), Unreplaced> {
+    let path = fs::canonicalize(rt, name)?.into_string();
+    replace_at(rt, path.as_str(), &mut text)
 }

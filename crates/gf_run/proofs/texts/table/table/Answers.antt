@@ -9,5 +9,5 @@ use Rattle.gf_run.proofs.texts.table.table.Goals as goal
 players_within : (bytes : List ℕ) (g : Game) → SpellsGame bytes g → length g.players ≤ length bytes
 players_within bytes g spelled = grind (arith, few_ahead, length-append, length-map)
 
-pub form_by-requires : goal.form_by-requires
-form_by-requires c = grind (arith, players_within)
+pub form_answer-requires : goal.form_answer-requires
+form_answer-requires c = grind (arith, players_within)
