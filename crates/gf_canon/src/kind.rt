@@ -2,7 +2,7 @@
 
 ghost use Rattle.std.specs.Prelude.{IfErr, IfOk};
 ghost use Rattle.gf_canon.specs.inner.KindWord.{word_of};
-ghost use Rattle.gf_canon.specs.Judgement.{BeginsWithWord, IsWithoutFormat};
+ghost use Rattle.gf_canon.specs.Judgement.{BeginsWithWord, IsRefusedWith};
 
 use gf_token::{Cursor, Fault, What, Why};
 
@@ -21,7 +21,7 @@ pub enum FileKind {
 /// E2, at its opening quote.
 pub(crate) fn kind_of(input: &[u8]) -> Result<FileKind, Fault>
     ensures named { IfOk result (λ kind. BeginsWithWord (word_of kind) input.now) }
-    ensures refused { IfErr result (λ fault. IsWithoutFormat fault.why input.now fault.span) }
+    ensures refused { IfErr result (IsRefusedWith input.now) }
 {
     let due = Why::Expected(What::Format);
     let mut tokens = Cursor::new(input);

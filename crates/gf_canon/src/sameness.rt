@@ -150,11 +150,15 @@ pub fn same_by(alloc: Global, a: &[u8], b: &[u8], names: Names) -> Result<bool, 
             Err(fault) => Err(SameFault::First(fault)),
         };
     }
-    let first = match list_file(alloc, a) {
-        Ok(first) => first,
-        Err(fault) => return Err(SameFault::First(fault)),
-    };
-    same_as(alloc, &first, b, names)
+    match list_file(alloc, a) {
+        Ok(first) => {
+            let answer = same_as(alloc, &first, b, names);
+            // A call is cheaper to check than the drop where the scope ends.
+            drop(first);
+            answer
+        }
+        Err(fault) => Err(SameFault::First(fault)),
+    }
 }
 
 /// Whether two files mean the same (this project's profile), which they do exactly when their

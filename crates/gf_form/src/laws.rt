@@ -31,7 +31,6 @@ ghost use Rattle.gf_form.specs.WorkedForms.{overflowing, second, unlikely};
 /// Worked games: plays, strategic and reduced forms, and payoffs that fit although the bottom-up
 /// value does not, once because of a child with probability zero, and once because of the sum of
 /// the children, to which the node's own payoff is added last.
-#[tactic(auto, using(crate::proofs::lemmas::form::SameForms::worked_forms))]
 pub fn worked_forms()
     ensures games { AllByRecursion (λ g. IsGame g × IsSpellable g)
         (overflowing ∷ unlikely ∷ balancing ∷ ending ∷ contradicted ∷ []) }

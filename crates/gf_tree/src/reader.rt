@@ -7,13 +7,14 @@
 //! bytes of a `Fault` even when there is none.
 
 ghost use Rattle.std.specs.Prelude.{◌≡◌, ◌<◌, ◌^◌, ℕ, List, Ok, length, IfOk, OnOk};
+ghost use Rattle.std.specs.Prelude.{MatchResult};
 ghost use Rattle.gf_token.specs.Remaining.{StandsBefore};
 ghost use Rattle.gf_token.specs.TokenSpelling.{Spells};
 ghost use Rattle.gf_tree.specs.inner.Machine.{nothing};
 ghost use Rattle.gf_tree.specs.inner.Machine.Position.{Format, NodeDue};
 ghost use Rattle.gf_tree.specs.GameOf.{SpellsGame};
-ghost use Rattle.gf_tree.specs.inner.ReaderState.{answer, content_of, Goes, IsRead, KeepsNodes};
-ghost use Rattle.gf_tree.specs.inner.ReaderState.{ReadsHeading};
+ghost use Rattle.gf_tree.specs.inner.ReaderState.{answer, content_of, Fails, Goes, IsRead};
+ghost use Rattle.gf_tree.specs.inner.ReaderState.{KeepsNodes, ReadsHeading};
 
 pub(crate) mod again;
 mod heading;
@@ -89,6 +90,24 @@ impl<'a> Reader<'a> {
         Ok(self.comment(brace))
     }
 
+    /// Reads a file from its first token to its end, and tells it to a receiver.
+    fn follow<R: Receive<'a>>(&mut self, to: &mut R) -> Result<(), Fault>
+        requires content { content_of self.old ≡ nothing }
+        requires spelled { Spells 0 self.old.tokens.input self.old.tokens.ahead }
+        requires due { self.old.due ≡ 1 }
+        requires few { length self.old.tokens.ahead < 2 ^ 64 }
+        requires untold { (self.old.told_sets ≡ 0) × (self.old.told_outcomes ≡ 0) }
+        requires to_untold { R.untold to.old }
+        ensures { MatchResult result
+            (λ _. IsRead (R.holds to.old) self.old.tokens.input (Ok self.new) to.new)
+            (λ f. Fails f (answer Format self.old)) }
+    {
+        let last = self.begin()?;
+        self.tell_heading(last, to)?;
+        self.nodes(to)?;
+        Ok(())
+    }
+
     /// Reads a file to its end, and tells it to a receiver.
     pub(crate) fn read<R: Receive<'a>>(
         alloc: Global,
@@ -99,10 +118,10 @@ impl<'a> Reader<'a> {
         ensures { IsRead (R.holds to.old) input.entry.now result to.new }
     {
         let mut reader = Reader::new(alloc, input);
-        let last = reader.begin()?;
-        reader.tell_heading(last, to)?;
-        reader.nodes(to)?;
-        Ok(reader)
+        match reader.follow(to) {
+            Ok(()) => Ok(reader),
+            Err(fault) => Err(fault),
+        }
     }
 
     /// The game of the file, which was read to its end and has these nodes.

@@ -179,10 +179,15 @@ fn pairs_beside<P: ReceivePairs>(
         × (y : GameFile) × SpellsWithin b.now y × HavePairs (file_of first.now) y)) }
 {
     match read_file(alloc, b) {
-        Ok(second) => match pairs_between(alloc, first, &second, to) {
-            Ok(same) => Ok(same),
-            Err(AllocError) => Err(SameFault::Memory),
-        },
+        Ok(second) => {
+            let told = pairs_between(alloc, first, &second, to);
+            // A call is cheaper to check than the drop where the scope ends.
+            drop(second);
+            match told {
+                Ok(same) => Ok(same),
+                Err(AllocError) => Err(SameFault::Memory),
+            }
+        }
         Err(fault) => Err(SameFault::Second(fault)),
     }
 }
@@ -210,7 +215,12 @@ pub fn pairs_of_files<P: ReceivePairs>(
         × (x y : GameFile) × SpellsWithin a.now x × SpellsWithin b.now y × HavePairs x y)) }
 {
     match read_file(alloc, a) {
-        Ok(first) => pairs_beside(alloc, &first, b, to),
+        Ok(first) => {
+            let told = pairs_beside(alloc, &first, b, to);
+            // As above.
+            drop(first);
+            told
+        }
         Err(fault) => Err(SameFault::First(fault)),
     }
 }

@@ -134,9 +134,9 @@ impl<'a> Game<'a> {
             (listed_numbers self.now (map (λ own. own.items) sets.now) outcomes.now) self.now) }
     {
         let players = Vec::from_clones(alloc, &self.parts.players)?;
-        let sets = self.renumbered_sets(alloc, sets)?;
-        let outcomes = self.renumbered_outcomes(alloc, outcomes)?;
         let nodes = Vec::from_clones(alloc, &self.nodes)?;
+        let outcomes = self.renumbered_outcomes(alloc, outcomes)?;
+        let sets = self.renumbered_sets(alloc, sets)?;
         let parts = Parts {
             title: self.parts.title,
             comment: self.parts.comment,

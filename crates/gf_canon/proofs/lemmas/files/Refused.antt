@@ -30,9 +30,9 @@ pub refused_with : (bytes : List ℕ) (fault : Fault) → IsJudged fault.why byt
     → IsRefusedWith bytes fault
 refused_with bytes fault j = search (rules, placed, only_memory)
 
-pub refused_at_first : {A : Type 0} (bytes : List ℕ) (r : Result A Fault)
-    → IfErr r (λ fault. IsWithoutFormat fault.why bytes fault.span) → IfErr r (IsRefusedWith bytes)
-refused_at_first bytes r h = grind (arith, refused_with)
+pub refused_at_first : (bytes : List ℕ) (fault : Fault)
+    → IsWithoutFormat fault.why bytes fault.span → IsRefusedWith bytes fault
+refused_at_first bytes fault j = refused_with bytes fault (of_neither j)
 
 pub refused_game : {A : Type 0} (bytes : List ℕ) (r : Result A Fault) (kind : FileKind)
     → kind ≡ FileKind.Tree → BeginsWithWord (word_of kind) bytes
@@ -46,4 +46,4 @@ pub refused_table : {A : Type 0} (bytes : List ℕ) (r : Result A Fault) (kind :
     → IfErr r (IsRefusedWith bytes)
 refused_table bytes r kind is named judged = grind (arith, refused_with)
 
-pub ruleset refusals = (refused_at_first, refused_game, refused_table)
+pub ruleset refusals = (refused_game, refused_table)

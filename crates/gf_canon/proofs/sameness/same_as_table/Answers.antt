@@ -1,5 +1,5 @@
 use Rattle.gf_canon.proofs.Common.{extensive, strategic, Err, Bool}
-use Rattle.gf_canon.proofs.lemmas.files.Refused.{refused_at_first, refused_game, refused_table}
+use Rattle.gf_canon.proofs.lemmas.files.Refused.{refused_game, refused_table}
 use Rattle.gf_canon.proofs.lemmas.sameness.ComparedTrees.{no_game, same_as_table}
 use Rattle.gf_canon.proofs.sameness.same_as_table.Goals as goal
 
@@ -34,4 +34,4 @@ returns-in-Err-tell_efg-clause-refused c = λ a h. (
 
 pub returns-in-Err-clause-refused : goal.returns-in-Err-clause-refused
 returns-in-Err-clause-refused c = λ a h.
-    (h, refused_at_first {A = Bool} c.args.b.now (Err c.in-Err.fault) c.in-Err.ensures.refused)
+    (h, c.in-Err.ensures.refused)

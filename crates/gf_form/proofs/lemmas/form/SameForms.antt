@@ -370,6 +370,3 @@ reduced_of_ending =
     let second = paid_at 2 2 2 (omega arith) (omega arith) refl refl (equal _ _ refl refl refl) in
     let third = paid_at 3 3 3 (omega arith) (omega arith) refl refl (equal _ _ refl refl refl) in
     reduced_made ending ending_reduced (grind (arith, first, second, third))
-
-pub ruleset worked_forms =
-    (worked_games, form_of_bonus, no_values, equal, form_of_ending, reduced_of_ending)

@@ -175,8 +175,13 @@ own_digit : (counts xs : List ℕ) (j : ℕ) → length xs ≡ length counts →
     → ¬ (get_or (steps_after 1 counts) j 0 ≡ 0)
     → ArePlaced (steps_of (picked counts counts)) (picked counts counts) (picked counts xs)
     (get_or (steps_after 1 counts) j 0) (get_or counts j 0) (get_or xs j 0)
-own_digit (n ∷ counts) (x ∷ xs) (suc j) same less some =
-    grind (arith, behind, own_digit counts xs j (omega (arith, same)) (omega (arith, less)))
+own_digit (suc (suc n) ∷ counts) (x ∷ xs) (suc j) same less some =
+    behind _ _ _ _ _ _ _ _ _
+    (own_digit counts xs j (omega (arith, same)) (omega (arith, less)) some)
+own_digit (suc zero ∷ counts) (x ∷ xs) (suc j) same less some =
+    own_digit counts xs j (omega (arith, same)) (omega (arith, less)) some
+own_digit (zero ∷ counts) (x ∷ xs) (suc j) same less some =
+    own_digit counts xs j (omega (arith, same)) (omega (arith, less)) some
 own_digit counts xs j same less some = grind arith
 
 own_alone : (counts : List ℕ) (j : ℕ) → get_or (steps_after 1 counts) j 0 ≡ 0

@@ -3,8 +3,8 @@ use Rattle.gf_tree.proofs.Common.{append_assoc, AfterPlayers, with_player, point
 use Rattle.gf_tree.proofs.Common.{append-nil, run_tokens, InPlayers, Opening, Closing, Content, ◌≡◌}
 use Rattle.gf_tree.proofs.Common.{nothing, Version, nat_eq, braced, Format, Letter, ℕ}
 use Rattle.gf_tree.proofs.Common.{arith, codes, Token, Title, Bool, true, List, ◌++◌, refl, Text}
-use Rattle.gf_tree.proofs.Common.{Bare, ◌||◌, ◌∷◌, map, sym, ◌∙◌, ◌⊎◌, [], ap, at}
-use Rattle.gf_tree.proofs.lemmas.runs.Tokens.{Reads, guard_ok, same_bytes}
+use Rattle.gf_tree.proofs.Common.{Bare, ◌||◌, ◌∷◌, map, sym, ◌∙◌, ◌⊎◌, [], ap, at, inl, inr}
+use Rattle.gf_tree.proofs.lemmas.runs.Tokens.{Reads, guard_ok, refused, same_bytes}
 
 -- ---- what was read
 
@@ -13,14 +13,14 @@ only_format : (ts : List Token) (c r : Content) → Reads Format c ts r
 only_format (Bare b ∷ rest) c r e =
     let h = guard_ok (pointwise nat_eq b (codes "EFG")) (at Version c) _ rest r e in
     (rest, ap (λ (x : List ℕ). Bare x ∷ rest) (same_bytes b (codes "EFG") h.0), h.1)
-only_format _ c r e = absurd cc
+only_format _ c r e = absurd (refused _ r tt e)
 
 only_version : (ts : List Token) (c r : Content) → Reads Version c ts r
     → (rest : List Token) × (ts ≡ Bare (codes "2") ∷ rest) × Reads Letter c rest r
 only_version (Bare b ∷ rest) c r e =
     let h = guard_ok (pointwise nat_eq b (codes "2")) (at Letter c) _ rest r e in
     (rest, ap (λ (x : List ℕ). Bare x ∷ rest) (same_bytes b (codes "2") h.0), h.1)
-only_version _ c r e = absurd cc
+only_version _ c r e = absurd (refused _ r tt e)
 
 pub either_letter : (b : List ℕ) (is_r is_d : Bool) → pointwise nat_eq b (codes "R") ≡ is_r
     → pointwise nat_eq b (codes "D") ≡ is_d → (is_r || is_d) ≡ true
@@ -31,19 +31,16 @@ only_letter : (ts : List Token) (c r : Content) → Reads Letter c ts r
     → (letter : List ℕ) × (rest : List Token) × (ts ≡ Bare letter ∷ rest)
     × ((letter ≡ codes "R") ⊎ (letter ≡ codes "D")) × Reads Title c rest r
 only_letter (Bare b ∷ rest) c r e =
-    grind (
-      arith,
-      either_letter b (pointwise nat_eq b (codes "R")) (pointwise nat_eq b (codes "D")) refl refl
-          (guard_ok (pointwise nat_eq b (codes "R") || pointwise nat_eq b (codes "D")) (at Title c)
-          _ rest r e).0,
-    )
-only_letter _ c r e = absurd cc
+    let h = guard_ok (pointwise nat_eq b (codes "R") || pointwise nat_eq b (codes "D")) (at Title c)
+    _ rest r e in
+    (b, rest, refl, either_letter b _ _ refl refl h.0, h.1)
+only_letter _ c r e = absurd (refused _ r tt e)
 
 only_title : (ts : List Token) (c r : Content) → Reads Title c ts r
     → (title : List ℕ) × (rest : List Token) × (ts ≡ Text title ∷ Opening ∷ rest)
     × Reads InPlayers (record c { title = title }) rest r
 only_title (Text title ∷ Opening ∷ rest) c r e = (title, rest, refl, e)
-only_title ts c r e = absurd cc
+only_title ts c r e = absurd (refused _ r tt e)
 
 abbrev with_players : Content → List (List ℕ) → Content
 with_players c players = record c { players = c.players ++ players }
@@ -53,16 +50,18 @@ no_players c = ap (λ (ps : List (List ℕ)). record c { players = ps }) (append
 
 more_players : (c : Content) (p : List ℕ) (ps : List (List ℕ))
     → with_players (with_player c p) ps ≡ with_players c (p ∷ ps)
-more_players c p ps = grind (arith, append_assoc)
+more_players c p ps =
+    ap (λ (x : List (List ℕ)). record c { players = x }) (append_assoc c.players (p ∷ []) ps)
 
 -- Text* Closing
 players_found : (ts : List Token) (c r : Content) → Reads InPlayers c ts r
     → (players : List (List ℕ)) × (rest : List Token) × (ts ≡ map Text players ++ Closing ∷ rest)
     × Reads AfterPlayers (with_players c players) rest r
 players_found (Text label ∷ ts) c r e =
-    grind (arith, more_players, players_found ts (with_player c label) r e)
-players_found (Closing ∷ ts) c r e = grind (arith, no_players c)
-players_found _ c r e = absurd cc
+    let h = players_found ts (with_player c label) r e in
+    (label ∷ h.0, h.1, cc (h.2), rw (← more_players c label h.0) h.3)
+players_found (Closing ∷ ts) c r e = ([], ts, refl, rw (no_players c) e)
+players_found _ c r e = absurd (refused _ r tt e)
 
 -- of this title and these players
 abbrev pub heading : List ℕ → List (List ℕ) → Content
@@ -78,13 +77,6 @@ pub record Heading (ts : List Token) (r : Content) : Type 0 where
   pub is_letter : (letter ≡ codes "R") ⊎ (letter ≡ codes "D")
   pub goes_on : Reads AfterPlayers (heading title players) rest r
 
-joined : (ts t1 t2 t3 t4 rest : List Token) (letter title : List ℕ) (players : List (List ℕ))
-    → ts ≡ Bare (codes "EFG") ∷ t1 → t1 ≡ Bare (codes "2") ∷ t2 → t2 ≡ Bare letter ∷ t3
-    → t3 ≡ Text title ∷ Opening ∷ t4 → t4 ≡ map Text players ++ Closing ∷ rest
-    → ts ≡ Bare (codes "EFG") ∷ Bare (codes "2") ∷ Bare letter ∷ Text title
-    ∷ (braced (map Text players) ++ rest)
-joined ts t1 t2 t3 t4 rest letter title players e1 e2 e3 e4 e5 = grind (arith, append_assoc)
-
 pub heading_found : (ts : List Token) (r : Content) → Reads Format nothing ts r → Heading ts r
 heading_found ts r e =
     let a = only_format ts nothing r e in
@@ -97,7 +89,7 @@ heading_found ts r e =
       title = d.0;
       players = g.0;
       rest = g.1;
-      parts = joined ts a.0 b.0 c.1 d.1 g.1 c.0 d.0 g.0 a.1 b.1 c.2 d.2 g.2;
+      parts = cc (a.1, b.1, c.2, d.2, g.2, append_assoc (map Text g.0) (Closing ∷ []) g.1);
       is_letter = c.3;
       goes_on = g.3;
     }
@@ -109,12 +101,16 @@ players_again : (players : List (List ℕ)) (c : Content) (rest : List Token)
     ≡ run_tokens AfterPlayers (with_players c players) rest
 players_again [] c rest = ap (λ (d : Content). run_tokens AfterPlayers d rest) (sym (no_players c))
 players_again (label ∷ players) c rest =
-    cc (players_again players (with_player c label) rest, more_players c label players)
+    players_again players (with_player c label) rest
+    ∙ ap (λ (d : Content). run_tokens AfterPlayers d rest) (more_players c label players)
 
 letter_again : (letter : List ℕ) (c : Content) (rest : List Token)
     → (letter ≡ codes "R") ⊎ (letter ≡ codes "D")
     → run_tokens Letter c (Bare letter ∷ rest) ≡ run_tokens Title c rest
-letter_again letter c rest h = grind arith
+letter_again letter c rest (inl is) =
+    ap (λ (b : List ℕ). run_tokens Letter c (Bare b ∷ rest)) is
+letter_again letter c rest (inr is) =
+    ap (λ (b : List ℕ). run_tokens Letter c (Bare b ∷ rest)) is
 
 pub heading_again : (letter title : List ℕ) (players : List (List ℕ)) (rest : List Token)
     → (letter ≡ codes "R") ⊎ (letter ≡ codes "D")

@@ -5,7 +5,7 @@ use Rattle.gf_tree.proofs.Common.{Closing, Text, Bare, Ratio, Action, AreActions
 use Rattle.gf_tree.proofs.Common.{IsAction, Begun, Content, at, past_label, OutcomeNumber}
 use Rattle.gf_tree.proofs.Common.{KnownAction, run_tokens, AddUpTo, whole, pos}
 use Rattle.gf_tree.proofs.Common.{refl}
-use Rattle.gf_tree.proofs.lemmas.runs.Tokens.{Reads, text_found, text_again}
+use Rattle.gf_tree.proofs.lemmas.runs.Tokens.{Reads, refused, text_found, text_again}
 use Rattle.gf_tree.proofs.lemmas.runs.Payoffs.{number_found, number_same}
 
 -- each of chance has a probability, and none of a player has one
@@ -45,8 +45,9 @@ known_more first ts player a actions b c r is h = record {
 pub known_found : (actions : List Action) (player : ℕ) (ts : List Token) (b : Begun) (c r : Content)
     → AllByRecursion (HasProbability player) actions → Reads (KnownAction b actions) c ts r
     → KnownActions ts player actions b c r
-known_found [] player (Closing ∷ ts) b c r has e = grind arith
-known_found [] player _ b c r has e = absurd cc
+known_found [] player (Closing ∷ ts) b c r has e =
+    record { inner = []; rest = ts; parts = refl; each = refl; goes_on = e }
+known_found [] player _ b c r has e = absurd (refused _ r tt e)
 known_found (a ∷ actions) zero (Text label ∷ Bare t ∷ ts) b c r has e =
     let h = text_found a.label label _ (Bare t ∷ ts) r e in
     let k = subst (λ o. Reads (past_label b o actions) c (Bare t ∷ ts) r) has.0.1 h.1 in
@@ -54,14 +55,16 @@ known_found (a ∷ actions) zero (Text label ∷ Bare t ∷ ts) b c r has e =
     known_more (Text label ∷ Bare t ∷ []) ts 0 a actions b c r
     (t, has.0.0, ap (λ (l : List ℕ). Text l ∷ Bare t ∷ []) h.0, x.0, has.0.1)
     (known_found actions 0 ts b c r has.1 x.1)
-known_found (a ∷ actions) zero (Text label ∷ ts) b c r has e = grind (arith, text_found)
+known_found (a ∷ actions) zero (Text label ∷ ts) b c r has e =
+    let h = text_found a.label label _ ts r e in
+    absurd (refused _ r tt (subst (λ o. Reads (past_label b o actions) c ts r) has.0.1 h.1))
 known_found (a ∷ actions) (suc player) (Text label ∷ ts) b c r has e =
     let h = text_found a.label label _ ts r e in
     known_more (Text label ∷ []) ts (suc player) a actions b c r
     (ap (λ (l : List ℕ). Text l ∷ []) h.0, has.0) (known_found actions (suc player) ts b c r has.1
     (subst (λ o. Reads (past_label b o actions) c ts r) has.0 h.1))
-known_found (a ∷ actions) zero _ b c r has e = absurd cc
-known_found (a ∷ actions) (suc player) _ b c r has e = absurd cc
+known_found (a ∷ actions) zero _ b c r has e = absurd (refused _ r tt e)
+known_found (a ∷ actions) (suc player) _ b c r has e = absurd (refused _ r tt e)
 
 pub label_again : (a : Action) (actions : List Action)
     (o : Option Ratio) (ts : List Token) (b : Begun) (c : Content) → a.probability ≡ o

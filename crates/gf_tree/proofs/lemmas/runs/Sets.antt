@@ -9,7 +9,7 @@ use Common.{subst, arith, Token, whole, IsSet, begun, None, refl, Text, Bare, �
 use Common.{sym, ◌∙◌, inl, inr, ◌⊎◌, pos, Use, [], Ok, ap, at, set_with}
 use Rattle.gf_tree.proofs.lemmas.games.TreesOnce.{same_set_equality}
 use Rattle.gf_tree.proofs.lemmas.games.Members.{all_more}
-use Rattle.gf_tree.proofs.lemmas.runs.Tokens.{Reads, run_on, text_found, text_again}
+use Rattle.gf_tree.proofs.lemmas.runs.Tokens.{Reads, refused, run_on, text_found, text_again}
 use Rattle.gf_tree.proofs.lemmas.runs.Actions.{are_others, new_found, new_again}
 use Rattle.gf_tree.proofs.lemmas.runs.KnownActions.{probabilities, known_found, known_again}
 use Rattle.gf_tree.proofs.lemmas.runs.Learned.{one, use_of, learns_new, learns_again, one_use}
@@ -67,7 +67,7 @@ new_after (Text label ∷ Opening ∷ ts) name player n c r among some are unkno
           all_more (λ s. IsSet (length c.players) s.key s.description) c.sets (one key set) are is;
       goes_on = h.goes_on;
     }
-new_after ts name player n c r among some are unknown e = grind arith
+new_after ts name player n c r among some are unknown e = absurd (refused _ r tt e)
 
 known_after : (ts : List Token) (name : List ℕ)
     (player n : ℕ) (set : InformationSet) (c r : Content) → AreSets (length c.players) c.sets
@@ -95,8 +95,12 @@ known_after (Text label ∷ Opening ∷ ts) name player n set c r are known e =
       are = are;
       goes_on = k.goes_on;
     }
-known_after (Text label ∷ ts) name player n set c r are known e = grind (arith, text_found)
-known_after ts name player n set c r are known e = grind arith
+known_after (Text label ∷ ts) name player n set c r are known e =
+    let b = begun name (set_of player n) set in
+    absurd (refused _ r tt
+    (text_found set.name label (at (KnownSetOpening b set.actions) c) ts r e).1)
+known_after (Bare t ∷ ts) name player n set c r are known e = grind arith
+known_after ts name player n set c r are known e = absurd (refused _ r tt e)
 
 past_found : (ts : List Token) (name : List ℕ)
     (player n : ℕ) (o : Option InformationSet) (c r : Content)
@@ -128,7 +132,7 @@ pub set_found : (ts : List Token) (name : List ℕ) (player : ℕ) (c r : Conten
     → player ≤ length c.players → AreSets (length c.players) c.sets
     → Reads (SetNumber name player) c ts r → SetRead ts name player c r
 set_found (Bare t ∷ ts) name player c r among are e = grind (arith, number_by)
-set_found _ name player c r among are e = absurd cc
+set_found _ name player c r among are e = absurd (refused _ r tt e)
 
 -- ---- each set of a node is read
 

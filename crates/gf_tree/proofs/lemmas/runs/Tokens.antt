@@ -2,7 +2,7 @@
 use Rattle.gf_tree.proofs.Common.{arith}
 use Rattle.gf_tree.proofs.Common.{Decides-eqb, run_tokens, same_ratio, pointwise, same_text, Result}
 use Rattle.gf_tree.proofs.Common.{then_run, Position, Content, nat_eq, Ratio, Token, State}
-use Rattle.gf_tree.proofs.Common.{Bool, true, cond, List, refl, ◌≡◌, Err, Why, Ok, ℕ}
+use Rattle.gf_tree.proofs.Common.{Bool, true, cond, List, refl, ◌≡◌, Err, Why, Ok, ℕ, subst}
 use Rattle.gf_token.specs.Offered as any_format
 use Rattle.gf_tree.specs.inner.Machine.{at_end, next}
 use Rattle.std.proofs.lemmas.Bool.{and_parts}
@@ -21,6 +21,14 @@ ok_read r = Ok r
 
 pub ok_is : (x y : Content) → ok_read x ≡ ok_read y → x ≡ y
 ok_is x y e = cc
+
+-- what is refused is not read
+abbrev pub IsErr : Result Content Why → Type 0
+IsErr (Ok r) = ⊥
+IsErr (Err why) = Unit {0}
+
+pub refused : (o : Result Content Why) (r : Content) → IsErr o → o ≡ Ok r → ⊥
+refused o r h e = subst IsErr e h
 
 -- ---- tests
 

@@ -1,5 +1,6 @@
 use Rattle.gf_tree.proofs.Common.{◌≡◌, ◌-◌, ◌∙◌, ℕ, suc, ap, arith, rules, label_of, outcome_with}
 use Rattle.gf_tree.proofs.Common.{NewPayoff, answer, begun_with, false}
+use Rattle.std.proofs.lemmas.Grind.{common_steps}
 use Rattle.gf_tree.proofs.lemmas.reader.Steps.{carried, fails_back}
 use Rattle.gf_tree.proofs.reader.Reader.new_outcome.Goals as goal
 
@@ -14,3 +15,9 @@ returns-in_err-payoff g c =
     (label_of c.args.node) c.args.set) c.args.number
     (outcome_with (label_of c.in-Some.name.label) c.loop-left.self.outcomes.pending) n)
     c.loop-left.self) more))
+
+pub loop-left-preserved : goal.loop-left-preserved
+loop-left-preserved g c = grind (arith, common_steps)
+
+pub returns : goal.returns
+returns g c = grind (arith, common_steps)

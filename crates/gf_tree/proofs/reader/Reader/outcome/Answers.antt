@@ -1,7 +1,7 @@
 use Rattle.gf_tree.proofs.Common.{◌≡◌, ap, arith, false, Some, None, refl, rules, label_of}
 use Rattle.gf_tree.proofs.Common.{is_quoted, starts, Reader, with_node, KnownOutcomeName, NodeDue}
 use Rattle.gf_tree.proofs.Common.{begun_with, content_of}
-use Rattle.gf_token.proofs.Offered.{index_read}
+use Rattle.gf_token.proofs.Offered.{index_answers, index_read}
 use Rattle.gf_tree.proofs.lemmas.reader.Steps.{fails_back, lacks_memory}
 use Rattle.gf_tree.proofs.lemmas.stores.PassedBy.{outcome_passed_by}
 use Rattle.gf_tree.specs.inner.ReaderState.{with_children}
@@ -52,3 +52,18 @@ returns g c =
     told (search rules) reads_none (outcome_passed_by
     (content_of (with_children now c.args.set)) known.outcome now.tokens.input now.tokens.ahead
     none) refl (shorter_by c.in-Some.ensures.next)
+
+pub returns-in_default : goal.returns-in_default
+returns-in_default g c = grind (arith, index_answers)
+
+pub returns-in_default-index : goal.returns-in_default-index
+returns-in_default-index g c = grind (arith, index_answers)
+
+pub returns-in_default-known_outcome : goal.returns-in_default-known_outcome
+returns-in_default-known_outcome g c = grind (arith, index_answers)
+
+pub returns-in_err-described_outcome : goal.returns-in_err-described_outcome
+returns-in_err-described_outcome g c = grind (arith, index_answers)
+
+pub returns-then-is_quoted : goal.returns-then-is_quoted
+returns-then-is_quoted g c = grind (arith, index_answers)

@@ -1,57 +1,19 @@
-use Rattle.gf_tree.proofs.Common.{◌∙◌, ap, rules, Content, Reader}
-use Rattle.gf_tree.proofs.lemmas.reader.Steps.{carried, fails_back, heard_begun}
-use Rattle.gf_tree.proofs.lemmas.reader.ToldGames.{read_whole}
+use Rattle.gf_tree.proofs.Common.{List, ℕ, subst, Ok}
+use Rattle.gf_tree.specs.inner.ReaderState.{IsRead}
+use Rattle.gf_tree.proofs.lemmas.reader.Steps.{carried, heard_begun}
 use Rattle.gf_tree.proofs.reader.Reader.read.Goals as goal
 
-pub returns-in_err-last : goal.returns-in_err-last
-returns-in_err-last r c =
-    let n = c.new-reader.ensures in
-    record {
-      tokens = c.new-reader.result.tokens.ahead;
-      spelled = n.spelled;
-      answered = fails_back {r = c.from_residual.result} _ (search rules)
-          (carried c.in_err-last.ensures.machine
-          (heard_begun c.new-reader.result c.args.input.now n.input n.content));
-    }
-
-pub returns-in_err-tell_heading : goal.returns-in_err-tell_heading
-returns-in_err-tell_heading r c =
-    let n = c.new-reader.ensures in
-    record {
-      tokens = c.new-reader.result.tokens.ahead;
-      spelled = n.spelled;
-      answered = fails_back {r = c.from_residual-in_err-tell_heading.result} _ (search rules)
-          (carried c.in_err-tell_heading.ensures
-          (heard_begun c.new-reader.result c.args.input.now n.input n.content
-          ∙ c.in_ok-last.ensures.machine));
-    }
-
-pub returns-in_err-nodes : goal.returns-in_err-nodes
-returns-in_err-nodes r c =
-    let n = c.new-reader.ensures in
-    record {
-      tokens = c.new-reader.result.tokens.ahead;
-      spelled = n.spelled;
-      answered = fails_back {r = c.from_residual-in_err-nodes.result} _ (search rules)
-          (carried (c.in_err-nodes.ensures.machine c.args.to.now c.in_ok-tell_heading.ensures)
-          (heard_begun c.new-reader.result c.args.input.now n.input n.content
-          ∙ c.in_ok-last.ensures.machine));
-    }
+pub returns-in-Ok : goal.returns-in-Ok
+returns-in-Ok r c =
+    subst (λ (b : List ℕ). IsRead (r.R.Receive.holds c.args.to.now) b (Ok c.follow.new.self)
+    c.follow.new.to) c.new-reader.ensures.input c.in-Ok.ensures
 
 pub returns : goal.returns
 returns r c =
     let n = c.new-reader.ensures in
-    let read = c.in_ok-last.ensures.read.0 in
     record {
       tokens = c.new-reader.result.tokens.ahead;
       spelled = n.spelled;
-      answered = read_whole (r.R.Receive.holds c.args.to.now) c.args.input.now
-          c.new-reader.result.tokens.ahead c.begin.new.self c.nodes.new.self c.nodes.new.to
-          (record {
-            goes = heard_begun c.new-reader.result c.args.input.now n.input n.content
-                ∙ c.in_ok-last.ensures.machine;
-            sets = ap (λ (k : Reader). k.sets.known) read ∙ ap (λ (d : Content). d.sets) n.content;
-            outcomes = ap (λ (k : Reader). k.outcomes.known) read
-                ∙ ap (λ (d : Content). d.outcomes) n.content;
-          }) (c.in_ok-nodes.ensures.machine c.args.to.now c.in_ok-tell_heading.ensures);
+      answered = carried c.in-Err.ensures
+          (heard_begun c.new-reader.result c.args.input.now n.input n.content);
     }

@@ -1,6 +1,6 @@
-use Rattle.gf_tree.proofs.Common.{◌∙◌, ap, rules, set_of, content_of}
+use Rattle.gf_tree.proofs.Common.{◌∙◌, ap, arith, rules, set_of, content_of}
 use Rattle.gf_token.specs.Offered.{positive}
-use Rattle.gf_token.proofs.Offered.{index_read}
+use Rattle.gf_token.proofs.Offered.{index_answers, index_read}
 use Rattle.gf_tree.proofs.lemmas.stores.PassedBy.{set_passed_by}
 use Rattle.gf_tree.proofs.lemmas.reader.Steps.{set_again, set_known_again, taken}
 use Rattle.gf_tree.proofs.reader.Reader.set.Goals as goal
@@ -18,3 +18,18 @@ returns-in-Some-known_set-clause-machine c = λ node.
     (set_known_again content node key c.in-Some-known_set.place tokens tokens
     c.in-Some-known_set.ensures.known (set_passed_by content node key _ tokens.input tokens.ahead
     (search rules)))
+
+pub returns-in_default-clause-machine : goal.returns-in_default-clause-machine
+returns-in_default-clause-machine c = grind (arith, index_answers)
+
+pub returns-in_default-count-clause-machine : goal.returns-in_default-count-clause-machine
+returns-in_default-count-clause-machine c = grind (arith, index_answers)
+
+pub returns-in_err-place-clause-machine : goal.returns-in_err-place-clause-machine
+returns-in_err-place-clause-machine c = grind (arith, index_answers)
+
+pub returns-in-None-clause-machine : goal.returns-in-None-clause-machine
+returns-in-None-clause-machine c = grind (arith, index_answers)
+
+pub returns-then-is_quoted-clause-machine : goal.returns-then-is_quoted-clause-machine
+returns-then-is_quoted-clause-machine c = grind (arith, index_answers)

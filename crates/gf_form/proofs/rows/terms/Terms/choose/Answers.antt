@@ -1,4 +1,4 @@
-use Rattle.gf_form.proofs.Common.{◌∙◌}
+use Rattle.gf_form.proofs.Common.{common_steps, arith, ◌∙◌}
 use Rattle.gf_form.proofs.lemmas.rows.PairRows.{settled_next, some_stride, step_within}
 use Rattle.gf_form.proofs.rows.terms.Terms.choose.Goals as goal
 
@@ -32,3 +32,9 @@ returns-clause-settled c =
 
 pub run_end-to-requires-clause-places : goal.run_end-to-requires-clause-places
 run_end-to-requires-clause-places c = c.requires.asked.places
+
+pub quotient-count-requires : goal.quotient-count-requires
+quotient-count-requires c = grind (arith, common_steps)
+
+pub overflow_add-first : goal.overflow_add-first
+overflow_add-first c = grind arith

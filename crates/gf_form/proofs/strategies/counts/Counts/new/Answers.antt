@@ -1,4 +1,4 @@
-use Rattle.gf_form.proofs.Common.{length-profiles, length-map, map-append, arith}
+use Rattle.gf_form.proofs.Common.{length-profiles, common_steps, length-map, map-append, arith}
 use Rattle.gf_form.proofs.lemmas.rows.Digits.{product_joined}
 use Rattle.gf_form.proofs.lemmas.strategies.CountedActions.{as_many_players, next_player, take_past}
 use Rattle.gf_form.proofs.lemmas.strategies.CountedActions.{strategy_counts, fits_so_far}
@@ -17,3 +17,9 @@ loop-before-preserved c = grind (arith, next_player, product_joined, map-append,
 
 pub returns : goal.returns
 returns c = grind (arith, length-map, take_past, strategy_counts, as_many_players, length-profiles)
+
+pub overflow_cast-before : goal.overflow_cast-before
+overflow_cast-before c = grind (arith, common_steps)
+
+pub overflow_add-before : goal.overflow_add-before
+overflow_add-before c = grind (arith, common_steps)

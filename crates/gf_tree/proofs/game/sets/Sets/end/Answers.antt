@@ -1,4 +1,4 @@
-use Rattle.gf_tree.proofs.Common.{List, arith, rules, subst, HoldActions, end_of}
+use Rattle.gf_tree.proofs.Common.{List, arith, length-map, rules, subst, HoldActions, end_of}
 use Rattle.gf_tree.proofs.lemmas.stores.SetsStored.{Entry, are_then, below_then, found, view_then}
 use Rattle.gf_tree.specs.declared.game.action.Action.{Action as Held}
 use Rattle.gf_tree.proofs.game.sets.Sets.end.Goals as goal
@@ -50,3 +50,12 @@ returns-clause-ok c =
     c.args.self.now c.self.view_is new c.max-self-inside-2.result
     (subst Holds c.deref-2.ensures.value c.in_ok-start.ensures) (search rules)
     c.push.new.map.entries c.truncate.new.self.items (search rules) (search rules)
+
+pub invariant_of-self : goal.invariant_of-self
+invariant_of-self c = rw c.make_room.ensures.entries c.self.invariant
+
+pub invariant_of-self-in_err-start : goal.invariant_of-self-in_err-start
+invariant_of-self-in_err-start c = rw c.make_room.ensures.entries c.self.invariant
+
+pub returns-clause-place : goal.returns-clause-place
+returns-clause-place c = grind (arith, length-map)
