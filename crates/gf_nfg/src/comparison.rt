@@ -10,7 +10,10 @@ ghost use Rattle.gf_nfg.specs.NamedBy.{named_by};
 ghost use Rattle.gf_nfg.specs.SameTable.{SameTable};
 ghost use Rattle.gf_nfg.specs.Table.{Table as table, rows};
 ghost use Rattle.gf_nfg.specs.TableText.{SpellsTable};
-ghost use Rattle.gf_nfg.specs.inner.ToldTable.{HasToldTable};
+ghost use Rattle.gf_nfg.specs.inner.Meaning.{frame_in, table_of};
+ghost use Rattle.gf_nfg.specs.inner.ReaderState.{HasCounts, content_in, content_of};
+ghost use Rattle.gf_nfg.specs.inner.TextParts.{frame_by};
+ghost use Rattle.gf_nfg.specs.inner.ToldTable.{HasToldTable, MeansTable};
 
 use crate::heading::Heading;
 use crate::listed::ListedTable;
@@ -19,6 +22,7 @@ use crate::read::tell_nfg;
 use crate::receive::{Kept, Receive, Version};
 use crate::table::Table;
 use crate::table::agree::{same_frame, same_kept_rows};
+use crate::table::frame::Frame;
 use crate::table::payoffs_in_turn::{PayoffsInTurn, same_left};
 use gf_fraction::Fraction;
 use gf_token::{Fault, Names};
@@ -123,19 +127,47 @@ impl<'t> Comparison<'t> {
             IsTrue answer ↔ SameTable (named_by names t.now) (named_by names u)) }
     {
         if self.version == Version::Payoffs {
-            let frame = heading.frame(alloc)?;
-            if !same_frame(t.frame(), &frame, names) {
-                return Ok(false);
-            }
-            return Ok(self.has_ended());
+            return self.ends_with(alloc, t.frame(), &heading, names);
         }
         let parts = Parts {
             heading,
             kept: self.kept,
         };
-        let other = parts.into_table(alloc)?;
-        same_table(alloc, t, &other, names)
+        same_parts(alloc, t, parts, names)
     }
+
+    /// Whether a heading is the same as this frame, and nothing is left to compare; title and
+    /// comment count if `names` are kept.
+    fn ends_with(
+        &mut self,
+        alloc: Global,
+        own: &Frame,
+        heading: &Heading<'_>,
+        names: Names,
+    ) -> Result<bool, AllocError>
+        requires { HasCounts heading.now }
+        ensures { IfOk result (λ answer. IsTrue answer
+            ↔ ((frame_by names own.now ≡ frame_by names (frame_in (content_in heading.now)))
+            × (IsTrue self.old.same × (self.old.left ≡ [])))) }
+    {
+        let frame = heading.frame(alloc)?;
+        Ok(same_frame(own, &frame, names) && self.has_ended())
+    }
+}
+
+/// Whether these parts mean the same table; title and comment count if `names` are kept.
+fn same_parts(
+    alloc: Global,
+    t: &ListedTable,
+    parts: Parts<'_>,
+    names: Names,
+) -> Result<bool, AllocError>
+    requires { (bytes : List ℕ) × MeansTable bytes (content_of parts) }
+    ensures { IfOk result (λ answer. IsTrue answer ↔ SameTable (named_by names t.now)
+        (named_by names (table_of (content_of parts.entry)))) }
+{
+    let other = parts.into_table(alloc)?;
+    same_table(alloc, t, &other, names)
 }
 
 /// Whether both tables are the same; title and comment count if `names` are kept.

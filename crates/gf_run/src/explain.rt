@@ -1,7 +1,8 @@
 //! A fault of a run in words, and what the system says about it.
 
-ghost use Rattle.std.specs.Prelude.{◌≡◌, IfOk};
+ghost use Rattle.std.specs.Prelude.{◌≡◌, IfOk, OnOk};
 ghost use Rattle.gf_explain.specs.Explained.{IsSaidAfter};
+ghost use Rattle.gf_explain.specs.Place.{EndsLine};
 ghost use Rattle.gf_run.specs.Reports.{IsExplained};
 ghost use Rattle.gf_run.specs.declared.fault.RunFault.{RunFault};
 
@@ -79,7 +80,30 @@ pub fn cause_of_source<S: LastError>(fault: &RunFault, source: &S) -> Cause {
     })
 }
 
-/// A line, what failed, and what the system says about that, if it says anything.
+/// Says what failed, and what the system says about that, if it says anything.
+fn push_failure(
+    alloc: Global,
+    text: &mut ShownText,
+    words: &str,
+    name: &str,
+    error: &Option<io::Error>,
+) -> Result<(), AllocError>
+    ensures { OnOk result (EndsLine text.new) }
+{
+    let (words, name) = (Part::Shown(words.as_bytes()), Part::Shown(name.as_bytes()));
+    let Some(error) = error else {
+        return push_line(text, &[words, name]);
+    };
+    let reason = error.to_string(alloc)?;
+    let (colon, reason) = (Part::Shown(b": "), Part::Shown(reason.as_bytes()));
+    push_line(text, &[words, name, colon, reason])?;
+    if error.kind() == io::ErrorKind::IsADirectory {
+        push_line(text, &[Part::Shown(FOLDER_HINT)])?;
+    }
+    Ok(())
+}
+
+/// A line, and what `push_failure` says after it.
 fn failure_text(
     alloc: Global,
     line: &[u8],
@@ -89,19 +113,8 @@ fn failure_text(
 ) -> Result<Vec<u8>, AllocError>
     ensures { IfOk result (λ text. IsSaidAfter line.now text.items) }
 {
-    let (words, name) = (Part::Shown(words.as_bytes()), Part::Shown(name.as_bytes()));
     let mut text = ShownText::new(alloc);
-    match error {
-        Some(error) => {
-            let reason = error.to_string(alloc)?;
-            let (colon, reason) = (Part::Shown(b": "), Part::Shown(reason.as_bytes()));
-            push_line(&mut text, &[words, name, colon, reason])?;
-            if error.kind() == io::ErrorKind::IsADirectory {
-                push_line(&mut text, &[Part::Shown(FOLDER_HINT)])?;
-            }
-        }
-        None => push_line(&mut text, &[words, name])?,
-    }
+    push_failure(alloc, &mut text, words, name, error)?;
     said_after(alloc, line, &text)
 }
 

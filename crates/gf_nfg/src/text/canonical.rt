@@ -8,12 +8,14 @@ ghost use Rattle.gf_nfg.specs.inner.Meaning.{IsComplete, rows_by};
 ghost use Rattle.gf_nfg.specs.inner.ReaderState.{content_of};
 ghost use Rattle.gf_nfg.specs.TableText.{SpellsTable, lines_text, table_text};
 ghost use Rattle.gf_nfg.specs.TextPieces.{IsUngiven};
-ghost use Rattle.gf_nfg.specs.inner.TextParts.{row_text};
+ghost use Rattle.gf_nfg.specs.inner.TextParts.{heading_text, row_text};
 
 use crate::parts::Parts;
 use crate::read::tell_nfg;
 use crate::receive::Version;
 use crate::table::Table;
+use crate::table::frame::Frame;
+use crate::table::rows::Rows;
 use crate::text::ToldText;
 use crate::text::pieces::TextPieces;
 use crate::text::write::write_heading;
@@ -64,6 +66,17 @@ pub fn canonical_nfg(alloc: Global, input: &[u8], names: Names) -> Result<TextPi
     }
 }
 
+/// The heading of a table, and the lines of its rows.
+fn with_rows(alloc: Global, frame: &Frame, rows: Rows) -> Result<TextPieces, AllocError>
+    ensures rest { IfOk result
+        (λ t. t.rest ≡ heading_text frame.now ++ lines_text (map row_text rows)) }
+    ensures ungiven { IfOk result IsUngiven }
+{
+    let mut text = Vec::new(alloc);
+    write_heading(frame, Names::Kept, &mut text)?;
+    TextPieces::with_rows(alloc, text, rows)
+}
+
 /// The canonical text of a table. Its strategies and payoffs are written as it is given, unless
 /// profiles share payoffs, so little memory is taken beside them.
 ///
@@ -78,7 +91,5 @@ pub fn text_of(alloc: Global, t: Table) -> Result<TextPieces, AllocError>
     if rows.shared().is_none() {
         return TextPieces::of_table(alloc, frame, rows);
     }
-    let mut text = Vec::new(alloc);
-    write_heading(&frame, Names::Kept, &mut text)?;
-    TextPieces::with_rows(alloc, text, rows)
+    with_rows(alloc, &frame, rows)
 }

@@ -1,15 +1,16 @@
 //! A text that is given piece by piece, so that one that is much longer than its file need not be
 //! held in memory.
 
-ghost use Rattle.std.specs.Prelude.{◌≡◌, ◌<◌, ◌++◌, [], false, true, IfOk, MatchOption};
-ghost use Rattle.std.specs.Prelude.{length, map};
+ghost use Rattle.std.specs.Prelude.{◌≡◌, ◌+◌, ◌*◌, ◌<◌, ◌≤◌, ◌++◌, [], false, true, IfOk};
+ghost use Rattle.std.specs.Prelude.{MatchOption, OnOk, get_or, length, map, vec_capacity};
 ghost use Rattle.std.specs.List.{AllByRecursion};
 ghost use Rattle.gf_nfg.specs.TableText.{lines_text};
 ghost use Rattle.gf_nfg.specs.TextPieces.{IsUngiven};
-ghost use Rattle.gf_nfg.specs.inner.TextParts.{heading_text, row_text};
+ghost use Rattle.gf_nfg.specs.inner.ListsLeft.{size_of};
+ghost use Rattle.gf_nfg.specs.inner.TextParts.{ending_text, front_text, heading_text, row_text};
 
 use crate::table::frame::Frame;
-use crate::table::rows::Rows;
+use crate::table::rows::{NumberedRows, Rows};
 use crate::text::lines::{Lines, write_lines};
 use crate::text::lists::ListsWritten;
 use crate::text::rest::{PAYOFF_ROOM, PIECE, Rest};
@@ -46,6 +47,24 @@ impl Model for TextPieces {
         HasRoom t.rest (if t.begun then 0 else vec_len t.piece) (vec_capacity t.piece) };
 }
 
+/// Appends what stands before the strategies to a piece, and what stands behind them to another
+/// vector. A piece gets room for what may come last in it: a label, the ending, or a line.
+fn write_around(frame: &Frame, piece: &mut Vec<u8>, ending: &mut Vec<u8>) -> Result<(), AllocError>
+    ensures front { OnOk result (piece.new.items ≡ piece.old.items ++ front_text frame.now) }
+    ensures ending { OnOk result (ending.new.items ≡ ending.old.items ++ ending_text frame.now) }
+    ensures label { OnOk result
+        (65536 + (size_of frame.now.strategies + 3) ≤ vec_capacity piece.new) }
+    ensures last { OnOk result (65536 + length ending.new.items ≤ vec_capacity piece.new) }
+    ensures line { OnOk result
+        (65536 + (81 * length frame.now.players + 1) ≤ vec_capacity piece.new) }
+{
+    write_front(frame, Names::Kept, piece)?;
+    write_ending(frame, Names::Kept, ending)?;
+    let line = frame.players().saturating_mul(PAYOFF_ROOM);
+    let longest = frame.lists().size().max(ending.len()).max(line);
+    piece.reserve_exact(longest.saturating_add(PIECE + 3))
+}
+
 impl TextPieces {
     /// A text in one piece, which is not given yet.
     // No edit: it puts parts together.
@@ -77,30 +96,52 @@ impl TextPieces {
         ensures rest { IfOk result (λ t. t.rest ≡ text.items ++ lines_text (map row_text rows)) }
         ensures ungiven { IfOk result IsUngiven }
     {
-        let mut piece = text;
         match rows.into_shared() {
-            Ok((numbered, numbers)) => {
-                let lines = Lines::of_rows(alloc, &numbered)?;
-                lines.reserve(&numbers, &mut piece)?;
-                Ok(TextPieces {
-                    piece,
-                    begun: false,
-                    rest: Rest::Copies {
-                        lines,
-                        numbers,
-                        next: 0,
-                    },
-                })
-            }
-            Err(rows) => {
-                write_lines(&rows, 0, usize::MAX, &mut piece)?;
-                Ok(TextPieces::of(piece))
-            }
+            Ok((numbered, numbers)) => TextPieces::with_shared(alloc, text, &numbered, numbers),
+            Err(rows) => TextPieces::with_lines(text, &rows),
         }
     }
 
+    /// A text and, after it, a line for each of these numbers of rows, each made once.
+    #[tactic(auto, using(crate::proofs::lemmas::texts::SharedLines::shared_lines))]
+    fn with_shared(
+        alloc: Global,
+        text: Vec<u8>,
+        numbered: &NumberedRows,
+        numbers: Vec<u32>,
+    ) -> Result<TextPieces, AllocError>
+        requires { AllByRecursion (λ number. number < length numbered.now) numbers.items }
+        ensures rest { IfOk result (λ t. t.rest ≡ text.items
+            ++ lines_text (map row_text (map (λ n. get_or numbered.now n []) numbers.items))) }
+        ensures ungiven { IfOk result IsUngiven }
+    {
+        let lines = Lines::of_rows(alloc, numbered)?;
+        let mut piece = text;
+        lines.reserve(&numbers, &mut piece)?;
+        Ok(TextPieces {
+            piece,
+            begun: false,
+            rest: Rest::Copies {
+                lines,
+                numbers,
+                next: 0,
+            },
+        })
+    }
+
+    /// A text and, after it, a line for each of these rows, written at once.
+    fn with_lines(text: Vec<u8>, rows: &Rows) -> Result<TextPieces, AllocError>
+        ensures rest { IfOk result
+            (λ t. t.rest ≡ text.items ++ lines_text (map row_text rows.now)) }
+        ensures ungiven { IfOk result IsUngiven }
+    {
+        let mut piece = text;
+        write_lines(rows, 0, usize::MAX, &mut piece)?;
+        Ok(TextPieces::of(piece))
+    }
+
     /// The text of a table. The strategies are made as it is given, and so is the line of each
-    /// profile. A piece has room for what may come last in it: a label, the ending, or a line.
+    /// profile.
     pub(crate) fn of_table(
         alloc: Global,
         frame: Frame,
@@ -112,18 +153,13 @@ impl TextPieces {
         ensures none { IfOk result (λ t. t.piece ≡ []) }
     {
         let mut piece = Vec::new(alloc);
-        write_front(&frame, Names::Kept, &mut piece)?;
         let mut ending = Vec::new(alloc);
-        write_ending(&frame, Names::Kept, &mut ending)?;
-        let line = frame.players().saturating_mul(PAYOFF_ROOM);
-        let strategies = frame.into_lists();
-        let longest = strategies.size().max(ending.len()).max(line);
-        piece.reserve_exact(longest.saturating_add(PIECE + 3))?;
+        write_around(&frame, &mut piece, &mut ending)?;
         Ok(TextPieces {
             piece,
             begun: false,
             rest: Rest::Table {
-                strategies,
+                strategies: frame.into_lists(),
                 written: ListsWritten::nothing(),
                 ending,
                 rows,

@@ -96,6 +96,14 @@ fn push_line(mut line: Vec<u8>, names: &mut Vec<Vec<u8>>) -> Result<(), AllocErr
     Ok(())
 }
 
+/// Adds the name that came before such an end, unless it is a blank line.
+fn push_name(name: Vec<u8>, end: LineEnd, names: &mut Vec<Vec<u8>>) -> Result<(), AllocError> {
+    match end {
+        LineEnd::LineFeed => push_line(name, names),
+        LineEnd::Null => Ok(names.push(name)?),
+    }
+}
+
 /// Adds the names that a reader gives, each of which has this end. Blank lines are passed over.
 /// Names that came before an error stay.
 pub(crate) fn push_names<R: Read + Drop>(
@@ -109,10 +117,7 @@ pub(crate) fn push_names<R: Read + Drop>(
         LineEnd::Null => b'\0',
     };
     for name in BufReader::new(alloc, input)?.split(alloc, last) {
-        match end {
-            LineEnd::LineFeed => push_line(name?, names)?,
-            LineEnd::Null => names.push(name?)?,
-        }
+        push_name(name?, end, names)?;
     }
     Ok(())
 }

@@ -22,7 +22,6 @@ use Rattle.gf_tree.proofs.lemmas.games.Renumberings.{Agree, agreed_games, compos
 use Rattle.gf_tree.proofs.lemmas.games.Renumberings.{sets_apart, outcomes_apart, used_outcomes_of}
 use Rattle.gf_tree.proofs.lemmas.games.Renumberings.{used_sets_of}
 use Rattle.gf_tree.proofs.lemmas.games.Same.{carried_sets, carried_outcomes, same_back, same_on}
-use Rattle.gf_tree.proofs.lemmas.games
 
 -- ---- carried
 

@@ -11,7 +11,6 @@ use Rattle.gf_tree.proofs.lemmas.games.TreesOnce.{same_set_equality}
 use Rattle.gf_tree.proofs.lemmas.games.Learning.{learned_once}
 use Rattle.gf_tree.proofs.lemmas.games.Consistent.{map_entry, flatten_map, used_sets_are}
 use Rattle.gf_tree.proofs.lemmas.games.Consistent.{used_outcomes_are, is_game}
-use Rattle.gf_tree.proofs.lemmas.games
 
 -- a description is the one that is found
 pub told_found : {K D : Type 0} (same : K → K → Bool)

@@ -14,7 +14,6 @@ use Rattle.gf_tree.proofs.lemmas.runs.Learned.{IsKnown, IsNew, found_has}
 use Rattle.gf_tree.proofs.lemmas.runs.Learned.{learns_on, learns_split, one, one_use}
 use Rattle.gf_tree.proofs.lemmas.stores.KnownKeys.{known_more, used_before}
 use Rattle.std.specs.List.{list_any}
-use Rattle.gf_tree.proofs
 
 -- ---- one more at the end
 

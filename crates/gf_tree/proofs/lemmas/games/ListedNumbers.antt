@@ -13,7 +13,6 @@ use Rattle.gf_tree.proofs.lemmas.games.TreesOnce.{same_set_equality}
 use Rattle.gf_tree.proofs.lemmas.games.FirstUses.{AreDistinct, is_used}
 use Rattle.gf_tree.proofs.lemmas.games.Members.{has_at}
 use Rattle.gf_tree.proofs.lemmas.games.Uses.{Has, IsEquality, contains, each, has, mapped_from}
-use Rattle.gf_tree.proofs
 
 -- ---- lists of numbers
 

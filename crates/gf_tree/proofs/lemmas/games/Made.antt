@@ -10,7 +10,6 @@ use Rattle.gf_tree.proofs.lemmas.games.Renumbered.{renumbered_is_game}
 use Rattle.gf_tree.proofs.lemmas.stores.RenumberedKept.{entries_mapped, fills_mapped, game_mapped}
 use Rattle.gf_tree.proofs.lemmas.stores.RenumberedKept.{outcome_image, set_image, sizes_mapped}
 use Rattle.gf_tree.proofs.lemmas.stores.RenumberedKept.{renumbered_parts, tree_mapped}
-use Rattle.gf_tree.proofs
 
 pub its_game : (inside value : Game) → IsGame inside → inside ≡ value → IsGame value
 its_game inside value h e = subst IsGame e h

@@ -15,7 +15,6 @@ use Rattle.gf_tree.proofs.lemmas.games.Renumberings.{outcomes_apart}
 use Rattle.gf_tree.proofs.lemmas.games.TreesOnce.{same_set_equality}
 use Rattle.gf_tree.proofs.lemmas.games.Consistent.{map_entry, flatten_map}
 use Rattle.gf_tree.proofs.lemmas.games.Uses.{Has, has, contains, mapped_from, each, all_of_each}
-use Rattle.gf_tree.proofs
 
 -- ---- a game by new numbers
 

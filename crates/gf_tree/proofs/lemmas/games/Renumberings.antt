@@ -13,7 +13,6 @@ use Rattle.gf_tree.proofs.lemmas.games.MappedTrees.{map_tree_same, map_tree_twic
 use Rattle.gf_tree.proofs.lemmas.games.MappedTrees.{held, held_map}
 use Rattle.gf_tree.proofs.lemmas.games.TreesOnce.{same_set_equality}
 use Rattle.gf_tree.proofs.lemmas.games.Uses.{Has, has, contains, mapped_from, each}
-use Rattle.gf_tree.proofs
 
 -- ---- uses
 

@@ -11,7 +11,6 @@ use Rattle.gf_tree.proofs.lemmas.games.Renumberings.{identity, itself, composed,
 use Rattle.gf_tree.proofs.lemmas.games.Renumberings.{sets_apart, outcomes_apart, is_renumbering}
 use Rattle.gf_tree.proofs.lemmas.games.Renumberings.{set_number_positive, outcome_number_positive}
 use Rattle.gf_tree.proofs.lemmas.games.Uses.{Has, has, contains, has_map, mapped_from}
-use Rattle.gf_tree.proofs
 
 -- ---- what a carried game uses
 

@@ -10,7 +10,6 @@ use Rattle.gf_tree.proofs.lemmas.games.Prefix.{flatten_once}
 use Rattle.gf_tree.proofs.lemmas.games.Uses.{described_once, Has, has_first, has_later, IsEquality}
 use Rattle.gf_tree.proofs.lemmas.games.Uses.{described}
 use Rattle.gf_tree.proofs.lemmas.games.SentencesOnce.{says_once}
-use Rattle.gf_tree.proofs
 
 pub same_set_equality : IsEquality same_set
 same_set_equality a b =

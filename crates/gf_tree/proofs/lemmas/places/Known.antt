@@ -17,7 +17,6 @@ use Rattle.gf_tree.proofs.lemmas.runs.Ends.{nodes_end, terminals}
 use Rattle.gf_tree.proofs.lemmas.runs.Games.{file_found}
 use Rattle.gf_tree.specs.inner.Machine.{at_end, next}
 use Rattle.gf_tree.proofs.Common.{Format, at, nothing}
-use Rattle.gf_tree.proofs
 
 -- ---- terminal nodes without an outcome
 

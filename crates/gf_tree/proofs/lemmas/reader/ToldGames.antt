@@ -16,7 +16,6 @@ use Rattle.gf_tree.proofs.lemmas.runs.Results.{AreOutcomes}
 use Rattle.gf_tree.proofs.lemmas.runs.Sets.{AreSets}
 use Rattle.gf_tree.proofs.lemmas.runs.Places.{run_reads}
 use Rattle.gf_tree.proofs.lemmas.reader.Steps.{refused_why}
-use Rattle.gf_tree.proofs
 
 -- ---- the heading
 

@@ -22,7 +22,6 @@ use Rattle.gf_tree.proofs.lemmas.games.Members.{filter_last, something_there}
 use Rattle.gf_tree.proofs.lemmas.reader.Games.{read_fills, read_is_game}
 use Rattle.gf_tree.proofs.lemmas.games.Renumbered.{first_use_is_renumbering, renumbered_is_game}
 use Rattle.gf_tree.proofs.lemmas.stores.RenumberedKept.{entries_mapped, outcome_image, set_image}
-use Rattle.gf_tree.proofs
 
 -- ---- lists
 

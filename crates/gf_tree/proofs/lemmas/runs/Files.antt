@@ -16,7 +16,6 @@ use Rattle.gf_tree.proofs.lemmas.runs.Results.{AreOutcomes}
 use Rattle.gf_tree.proofs.lemmas.games.SentencesOnce.{nodes_no_text}
 use Rattle.gf_tree.proofs.lemmas.runs.Learned.{uses_of, learns_on, learns_split, kept, all_known}
 use Rattle.gf_tree.proofs.lemmas.runs.Learned.{one_use, at_new}
-use Rattle.gf_tree.proofs
 
 -- the nodes without descriptions
 abbrev pub alone : List (Listed FileNode) → List (Listed Node)

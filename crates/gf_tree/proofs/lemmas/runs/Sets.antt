@@ -15,7 +15,6 @@ use Rattle.gf_tree.proofs.lemmas.runs.KnownActions.{probabilities, known_found, 
 use Rattle.gf_tree.proofs.lemmas.runs.Learned.{one, use_of, learns_new, learns_again, one_use}
 use Rattle.gf_tree.proofs.lemmas.runs.Learned.{IsNew, IsKnown, at_new, found_has}
 use Rattle.gf_tree.proofs.lemmas.Once.{one_some}
-use Rattle.gf_tree.proofs
 
 -- these sets are known
 abbrev pub with_sets : Content → List (Described SetKey InformationSet) → Content

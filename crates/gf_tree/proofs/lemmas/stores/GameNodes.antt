@@ -14,7 +14,6 @@ use Rattle.gf_tree.proofs.lemmas.games.Members.{beside}
 use Rattle.gf_tree.proofs.lemmas.games.Prefix.{one_tree}
 use Rattle.gf_tree.proofs.lemmas.stores.SubtreeSizes.{begin_first, counts_of, drop_suc, skips_to}
 use Rattle.gf_tree.proofs.lemmas.stores.SubtreeSizes.{slice_get_after, stands, subtrees_counted}
-use Rattle.gf_tree.proofs
 
 -- ---- the tree of a list
 

@@ -21,7 +21,6 @@ use Rattle.gf_tree.proofs.lemmas.games.TreesOnce.{same_set_equality}
 use Rattle.gf_tree.proofs.lemmas.stores.RenumberedStores.{is_among}
 use Rattle.gf_tree.proofs.lemmas.stores.SubtreeSizes.{begin_first, stands, subtrees_counted}
 use Rattle.gf_tree.proofs.lemmas.games.Members.{has_at, something_there}
-use Rattle.gf_tree.proofs.lemmas
 
 from_there : {A : Type 0} (xs : List A) (k : ℕ) (x : A) → slice_get xs k ≡ Some x
     → drop k xs ≡ x ∷ drop (k + 1) xs

@@ -9,7 +9,6 @@ use Rattle.gf_tree.specs.declared.game.outcomes.StoredOutcome.{StoredOutcome}
 use Rattle.gf_tree.specs.inner.StoredOutcomes.{described, end_of}
 use Rattle.gf_tree.proofs.lemmas.stores.Places.{at_index}
 use Rattle.gf_tree.proofs.lemmas.stores.Stretching.{entry_after, items_after}
-use Rattle.gf_tree.proofs
 
 abbrev Entry : Type 0
 Entry = ℕ × StoredOutcome

@@ -20,7 +20,6 @@ use Rattle.gf_tree.proofs.lemmas.games.TreesOnce.{same_set_equality}
 use Rattle.gf_tree.proofs.lemmas.games.Uses.{Has, IsEquality}
 use Rattle.gf_tree.proofs.lemmas.games.FirstUses.{AreDistinct, first_uses_distinct}
 use Rattle.gf_tree.proofs.lemmas.games.Members.{all_more, has_at, something_there}
-use Rattle.gf_tree.proofs
 
 -- ---- a key that has not stood yet
 

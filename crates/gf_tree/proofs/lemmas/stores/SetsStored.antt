@@ -14,7 +14,6 @@ use Rattle.gf_tree.specs.declared.game.sets.SetKey.{SetKey as StoredKey}
 use Rattle.gf_tree.specs.declared.game.sets.StoredSet.{StoredSet}
 use Rattle.gf_tree.specs.inner.StoredSets.{AreNumbered}
 use Rattle.gf_tree.proofs.lemmas.stores.Stretching.{entry_within, items_after, items_until, part_until}
-use Rattle.gf_tree.proofs
 
 abbrev pub Entry : Type 0
 Entry = StoredKey × StoredSet

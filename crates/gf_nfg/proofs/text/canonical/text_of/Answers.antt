@@ -1,4 +1,4 @@
-use Rattle.gf_nfg.proofs.Common.{◌≡◌, ◌∙◌, ◌++◌, ap, lines_text, map, row_text, subst, List, ℕ, IfOk}
+use Rattle.gf_nfg.proofs.Common.{◌≡◌, subst, List, ℕ, IfOk}
 use Rattle.gf_nfg.proofs.lemmas.texts.PayoffLines.{text_of_rows}
 use Rattle.gf_nfg.proofs.text.canonical.text_of.Goals as goal
 
@@ -11,7 +11,5 @@ returns-then-is_none-clause-rest c =
 pub returns-clause-rest : goal.returns-clause-rest
 returns-clause-rest c =
     let parts = c.into_parts-frame.ensures in
-    let begun = rw c.new-text.ensures.items at c.in_ok-write_heading.ensures.text in
     subst (λ (bs : List ℕ). IfOk c.with_rows.result (λ text. text.rest ≡ bs))
-    (ap (λ (bs : List ℕ). bs ++ lines_text (map row_text c.into_parts-frame.result.1)) begun
-    ∙ text_of_rows c.args.t _ _ parts.frame parts.rows) c.with_rows.ensures.rest
+    (text_of_rows c.args.t _ _ parts.frame parts.rows) c.with_rows.ensures.rest

@@ -1,3 +1,4 @@
+use Rattle.std.proofs.lemmas.Grind.{elements}
 use Rattle.gf_nfg.proofs.Common.{arith}
 use Rattle.std.proofs.lemmas.Grind.{common_steps}
 use Rattle.gf_nfg.proofs.lemmas.texts.Pieces.{row_begun, row_written}
@@ -11,3 +12,9 @@ loop-place-preserved c = record {
   kept = grind (arith, common_steps);
   room = omega (arith, c.in_ok-write_next.ensures.capacity, c.loop-place.invariant.room);
 }
+
+pub loop-place-init : goal.loop-place-init
+loop-place-init c = grind (arith, common_steps)
+
+pub returns-in_err-write_next-clause-full : goal.returns-in_err-write_next-clause-full
+returns-in_err-write_next-clause-full c = grind (arith, elements)

@@ -11,3 +11,6 @@ loop-at-preserved c = (
 
 pub returns-clause-text : goal.returns-clause-text
 returns-clause-text c = grind (arith, names_closed)
+
+pub loop-at-init : goal.loop-at-init
+loop-at-init c = grind (arith, common_steps)

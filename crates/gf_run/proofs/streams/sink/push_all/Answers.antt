@@ -31,3 +31,9 @@ returns-clause-all g c =
     let none : c.loop-rest.rest.now ≡ [] = drop_all 0 c.loop-rest.rest.now past in
     rw none at c.loop-rest.invariant c.args.output.now c.args.text.now []
     (rw append-nil (nothing_yet _ _ _))
+
+pub returns-clause-next : goal.returns-clause-next
+returns-clause-next g c = λ start whole after begun.
+    let past : length c.loop-rest.rest.now ≤ 0 = search rules in
+    let none : c.loop-rest.rest.now ≡ [] = drop_all 0 c.loop-rest.rest.now past in
+    rw none at c.loop-rest.invariant start whole after begun

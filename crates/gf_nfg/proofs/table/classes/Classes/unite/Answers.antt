@@ -1,0 +1,6 @@
+use Rattle.gf_nfg.proofs.Common.{arith}
+use Rattle.std.proofs.lemmas.Grind.{elements}
+use Rattle.gf_nfg.proofs.table.classes.Classes.unite.Goals as goal
+
+pub returns-clause-rows : goal.returns-clause-rows
+returns-clause-rows c = grind (arith, elements)
