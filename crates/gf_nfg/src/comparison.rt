@@ -17,7 +17,6 @@ ghost use Rattle.gf_nfg.specs.inner.ToldTable.{HasToldTable, MeansTable};
 
 use crate::heading::Heading;
 use crate::listed::ListedTable;
-use crate::parts::Parts;
 use crate::read::tell_nfg;
 use crate::receive::{Kept, Receive, Version};
 use crate::table::Table;
@@ -60,25 +59,29 @@ impl<'t, 'a> Receive<'a> for Comparison<'t> {
         expected: usize,
     ) -> Result<(), AllocError> {
         self.version = version;
-        if version == Version::Outcomes {
-            self.kept.numbers.reserve(expected)?;
+        match version {
+            Version::Payoffs => Ok(()),
+            Version::Outcomes => self.kept.numbers.reserve(expected),
         }
-        Ok(())
     }
 
     #[inline(always)]
     fn payoff(&mut self, payoff: Fraction) -> Result<(), AllocError> {
-        if self.version == Version::Outcomes {
-            self.kept.payoffs.push(payoff)?;
-            return Ok(());
+        match self.version {
+            Version::Payoffs => {
+                if self.same {
+                    self.same = match self.left.next() {
+                        Some(other) => other == payoff,
+                        None => false,
+                    };
+                }
+                Ok(())
+            }
+            Version::Outcomes => {
+                self.kept.payoffs.push(payoff)?;
+                Ok(())
+            }
         }
-        if self.same {
-            self.same = match self.left.next() {
-                Some(other) => other == payoff,
-                None => false,
-            };
-        }
-        Ok(())
     }
 
     #[inline(always)]
@@ -116,24 +119,20 @@ impl<'t> Comparison<'t> {
         mut self,
         alloc: Global,
         t: &ListedTable,
-        heading: Heading<'_>,
+        heading: &Heading<'_>,
         names: Names,
     ) -> Result<bool, AllocError>
         requires { (bytes : List ℕ) × HasToldTable
-            (IsCompared (flat_map (λ row. row) (rows t.now))) bytes heading self }
+            (IsCompared (flat_map (λ row. row) (rows t.now))) bytes heading.now self }
         ensures { (bytes : List ℕ) → HasToldTable
-            (IsCompared (flat_map (λ row. row) (rows t.now))) bytes heading.entry self.entry
+            (IsCompared (flat_map (λ row. row) (rows t.now))) bytes heading.now self.entry
             → (u : table) × SpellsTable bytes u × IsWithinLimit u × IfOk result (λ answer.
             IsTrue answer ↔ SameTable (named_by names t.now) (named_by names u)) }
     {
-        if self.version == Version::Payoffs {
-            return self.ends_with(alloc, t.frame(), &heading, names);
+        match self.version {
+            Version::Payoffs => self.ends_with(alloc, t.frame(), heading, names),
+            Version::Outcomes => same_parts(alloc, t, heading, self.kept, names),
         }
-        let parts = Parts {
-            heading,
-            kept: self.kept,
-        };
-        same_parts(alloc, t, parts, names)
     }
 
     /// Whether a heading is the same as this frame, and nothing is left to compare; title and
@@ -155,18 +154,20 @@ impl<'t> Comparison<'t> {
     }
 }
 
-/// Whether these parts mean the same table; title and comment count if `names` are kept.
+/// Whether this heading and what was kept mean the same table; title and comment count if `names` are
+/// kept.
 fn same_parts(
     alloc: Global,
     t: &ListedTable,
-    parts: Parts<'_>,
+    heading: &Heading<'_>,
+    kept: Kept,
     names: Names,
 ) -> Result<bool, AllocError>
-    requires { (bytes : List ℕ) × MeansTable bytes (content_of parts) }
+    requires { (bytes : List ℕ) × MeansTable bytes (content_of heading.now kept) }
     ensures { IfOk result (λ answer. IsTrue answer ↔ SameTable (named_by names t.now)
-        (named_by names (table_of (content_of parts.entry)))) }
+        (named_by names (table_of (content_of heading.now kept)))) }
 {
-    let other = parts.into_table(alloc)?;
+    let other = heading.table(alloc, kept)?;
     same_table(alloc, t, &other, names)
 }
 
@@ -234,5 +235,5 @@ pub fn compare_nfg(
 {
     let mut comparison = Comparison::new(alloc, t);
     let heading = tell_nfg(alloc, input, &mut comparison)?;
-    Ok(comparison.is_same(alloc, t, heading, names)?)
+    Ok(comparison.is_same(alloc, t, &heading, names)?)
 }

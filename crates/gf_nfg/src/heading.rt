@@ -1,12 +1,16 @@
-//! All of a strategic file except its payoffs, as it was read.
+//! All of a strategic file except its payoffs, as it was read, and the table that it means with them.
 
-ghost use Rattle.std.specs.Prelude.{◌≡◌, IfOk};
+ghost use Rattle.std.specs.Prelude.{◌≡◌, List, ℕ, IfOk};
 ghost use Rattle.gf_nfg.specs.inner.Machine.{nothing};
-ghost use Rattle.gf_nfg.specs.inner.Meaning.{frame_in};
-ghost use Rattle.gf_nfg.specs.inner.ReaderState.{HasCounts, content_in};
+ghost use Rattle.gf_nfg.specs.inner.Meaning.{IsComplete, frame_in, rows_by, table_of};
+ghost use Rattle.gf_nfg.specs.inner.ReaderState.{HasCounts, content_in, content_of};
+ghost use Rattle.gf_nfg.specs.inner.ToldTable.{MeansTable};
 
 use crate::limit::ProfileCount;
+use crate::receive::Kept;
+use crate::table::Table;
 use crate::table::frame::Frame;
+use crate::table::rows::Rows;
 use crate::table::strategies::StrategyLists;
 use gf_token::Label;
 use std::alloc::{AllocError, Global};
@@ -61,5 +65,26 @@ impl<'a> Heading<'a> {
     {
         let strategies = self.strategies(alloc)?;
         Frame::new(alloc, self.title, self.comment, &self.players, strategies)
+    }
+
+    /// A row for each profile, of the payoffs behind the heading. These are not copied.
+    #[tactic(auto, using(crate::proofs::lemmas::tables::Meaning::rows_of_parts))]
+    pub(crate) fn rows(&self, alloc: Global, kept: Kept) -> Result<Rows, AllocError>
+        requires { IsComplete (content_of self.now kept) }
+        ensures { IfOk result
+            (λ rows. rows ≡ rows_by (content_of self.now kept) kept.numbers.items) }
+    {
+        let (players, profiles) = (self.players.len(), self.profiles.count);
+        Rows::new(alloc, players, profiles, kept.payoffs, kept.numbers)
+    }
+
+    /// The table that the heading and what is behind it mean.
+    pub(crate) fn table(&self, alloc: Global, kept: Kept) -> Result<Table, AllocError>
+        requires { (bytes : List ℕ) × MeansTable bytes (content_of self.now kept) }
+        ensures { IfOk result (λ t. t ≡ table_of (content_of self.now kept)) }
+    {
+        let frame = self.frame(alloc)?;
+        let rows = self.rows(alloc, kept)?;
+        Ok(Table::of_parts(frame, rows))
     }
 }

@@ -6,7 +6,6 @@ mod heading;
 pub mod laws;
 mod limit;
 mod listed;
-mod parts;
 mod read;
 mod reader;
 mod receive;

@@ -10,7 +10,6 @@ ghost use Rattle.gf_nfg.specs.inner.ListedTable.{IsListing};
 ghost use Rattle.gf_nfg.specs.inner.ToldTable.{HasToldTable};
 
 use crate::heading::Heading;
-use crate::parts::Parts;
 use crate::receive::{Kept, Receive, Version};
 use crate::table::Table;
 use crate::table::frame::Frame;
@@ -139,12 +138,12 @@ impl ListedTable {
     /// The table that was told with this heading.
     pub(crate) fn told(
         alloc: Global,
-        heading: Heading<'_>,
+        heading: &Heading<'_>,
         listing: Listing,
     ) -> Result<ListedTable, AllocError>
-        requires { (bytes : List ℕ) × HasToldTable IsListing bytes heading listing }
+        requires { (bytes : List ℕ) × HasToldTable IsListing bytes heading.now listing }
         ensures { IfOk result (λ t. (bytes : List ℕ)
-            → HasToldTable IsListing bytes heading.entry listing
+            → HasToldTable IsListing bytes heading.now listing
             → SpellsTable bytes t × IsWithinLimit t) }
     {
         let Listing { whole, kept, .. } = listing;
@@ -154,7 +153,7 @@ impl ListedTable {
                 body: Body::InTurn(frame, whole, kept.payoffs),
             });
         }
-        let table = (Parts { heading, kept }).into_table(alloc)?;
+        let table = heading.table(alloc, kept)?;
         Ok(ListedTable {
             body: Body::Shared(table),
         })

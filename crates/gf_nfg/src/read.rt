@@ -10,7 +10,6 @@ ghost use Rattle.gf_nfg.specs.Judgement.{IsJudged};
 
 use crate::heading::Heading;
 use crate::listed::{ListedTable, Listing};
-use crate::parts::Parts;
 use crate::reader::Reader;
 use crate::receive::{Kept, Receive, Unkept};
 use crate::table::Table;
@@ -87,7 +86,7 @@ pub fn read_nfg(alloc: Global, input: &[u8]) -> Result<Table, Fault>
 {
     let mut kept = Kept::new(alloc);
     let heading = tell_nfg(alloc, input, &mut kept)?;
-    match (Parts { heading, kept }).into_table(alloc) {
+    match heading.table(alloc, kept) {
         Ok(table) => Ok(table),
         Err(error) => Err(Fault::at_end(input.len(), error.into())),
     }
@@ -106,7 +105,7 @@ pub fn list_nfg(alloc: Global, input: &[u8]) -> Result<ListedTable, Fault>
 {
     let mut listing = Listing::new(alloc);
     let heading = tell_nfg(alloc, input, &mut listing)?;
-    match ListedTable::told(alloc, heading, listing) {
+    match ListedTable::told(alloc, &heading, listing) {
         Ok(table) => Ok(table),
         Err(error) => Err(Fault::at_end(input.len(), error.into())),
     }

@@ -7,7 +7,7 @@ use gf_fraction::Fraction;
 use std::alloc::{AllocError, Global};
 
 /// What follows the heading of a file.
-#[derive(Clone, Copy, PartialEq, Eq)]
+#[derive(Clone, Copy)]
 pub enum Version {
     /// The payoffs at each profile.
     Payoffs,
@@ -97,7 +97,11 @@ impl<'a> Receive<'a> for Unkept {
 /// A receiver that keeps payoffs and numbers.
 #[derive(Drop)]
 pub(crate) struct Kept {
+    /// Rows of one payoff for each player, one row after another: those of the profiles in turn,
+    /// the first player's strategy fastest, or those of the outcomes.
     pub payoffs: Vec<Fraction>,
+    /// For each profile the number of its outcome, from 1, or 0 if each player is paid zero; none
+    /// in payoff version.
     pub numbers: Vec<u32>,
 }
 

@@ -127,12 +127,16 @@ impl<'a> Receive<'a> for ToldText {
 
     #[inline(always)]
     fn payoff(&mut self, payoff: Fraction) -> Result<(), AllocError> {
-        if self.version == Version::Outcomes {
-            self.kept.payoffs.push(payoff)?;
-            return Ok(());
+        match self.version {
+            Version::Payoffs => {
+                self.left = write_payoff(payoff, self.width, self.left, &mut self.text)?;
+                Ok(())
+            }
+            Version::Outcomes => {
+                self.kept.payoffs.push(payoff)?;
+                Ok(())
+            }
         }
-        self.left = write_payoff(payoff, self.width, self.left, &mut self.text)?;
-        Ok(())
     }
 
     #[inline(always)]

@@ -13,8 +13,8 @@ use Rattle.gf_nfg.specs.inner.Machine.{Content, at, with_count}
 use Rattle.gf_nfg.specs.Position.{Position, Position as p}
 use Rattle.gf_nfg.specs.inner.Told.{Told}
 use Rattle.gf_nfg.specs.declared.heading.Heading.{Heading}
-use Rattle.gf_nfg.specs.declared.parts.Parts.{Parts}
 use Rattle.gf_nfg.specs.declared.reader.Reader.{Reader}
+use Rattle.gf_nfg.specs.declared.receive.Kept.{Kept}
 use Rattle.gf_nfg.specs.declared.receive.Version.{Version}
 
 abbrev pub labels_of : List Label → List (List ℕ)
@@ -36,8 +36,8 @@ content_with h payoffs choices = record {
 abbrev pub content_in : Heading → Content
 content_in h = content_with h [] []
 
-abbrev pub content_of : Parts → Content
-content_of f = content_with f.heading f.kept.payoffs.items f.kept.numbers.items
+abbrev pub content_of : Heading → Kept → Content
+content_of h kept = content_with h kept.payoffs.items kept.numbers.items
 
 abbrev pub content_told : Told → Content
 content_told t = content_with t.heading t.payoffs t.numbers

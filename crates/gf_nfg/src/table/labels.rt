@@ -1,6 +1,6 @@
 //! Lists of labels that own their bytes.
 
-ghost use Rattle.std.specs.Prelude.{◌≡◌, ◌<◌, ◌++◌, ◌∷◌, [], Some};
+ghost use Rattle.std.specs.Prelude.{◌≡◌, ◌<◌, ◌≤◌, ◌++◌, ◌∷◌, [], Some};
 ghost use Rattle.std.specs.Prelude.{◌↔◌, length, map, slice_get, sum, IfOk, IsTrue, OnErr, OnOk};
 ghost use Rattle.std.specs.List.{join_with_byte};
 ghost use Rattle.gf_token.specs.Label.{label_of};
@@ -177,7 +177,8 @@ impl Labels {
 
     /// Adds labels at the end. If memory is refused, some of them may have been added.
     pub(crate) fn extend(&mut self, labels: &[Label<'_>]) -> Result<(), AllocError>
-        ensures { OnOk result (self.new ≡ self.old ++ map label_of labels.now) }
+        ensures ok { OnOk result (self.new ≡ self.old ++ map label_of labels.now) }
+        ensures grown { length self.old ≤ length self.new }
     {
         for label in labels {
             self.push(*label)?;
@@ -201,7 +202,8 @@ impl Labels {
     /// added.
     #[tactic(auto, using(crate::proofs::lemmas::tables::LabelLists::one_count_more))]
     pub(crate) fn extend_counted(&mut self, count: u32) -> Result<(), AllocError>
-        ensures { OnOk result (self.new ≡ self.old ++ counted_labels count) }
+        ensures ok { OnOk result (self.new ≡ self.old ++ counted_labels count) }
+        ensures grown { length self.old ≤ length self.new }
     {
         let mut buffer = Buffer::new();
         for before in 0..count {

@@ -45,32 +45,27 @@ impl StrategyLists {
         }
     }
 
-    /// These, and those of one more player.
+    /// Adds those of one more player. If memory is refused, some of them may have been added.
     #[tactic(auto, using(crate::proofs::lemmas::tables::Pieces::one_piece_more))]
-    fn with(self, own: &[Label<'_>]) -> Result<StrategyLists, AllocError>
-        ensures { IfOk result (λ all. all ≡ self ++ map label_of own.now ∷ []) }
+    fn push(&mut self, own: &[Label<'_>]) -> Result<(), AllocError>
+        ensures { OnOk result (self.new ≡ self.old ++ map label_of own.now ∷ []) }
     {
-        let StrategyLists {
-            mut labels,
-            mut ends,
-        } = self;
-        labels.extend(own)?;
-        ends.push(labels.len())?;
-        Ok(StrategyLists { labels, ends })
+        self.ends.reserve(1)?;
+        let added = self.labels.extend(own);
+        self.ends.push_reserved(self.labels.len());
+        added
     }
 
-    /// These, and those of one more player: the labels "1" to this count.
+    /// Adds those of one more player: the labels "1" to this count. If memory is refused, some of
+    /// them may have been added.
     #[tactic(auto, using(crate::proofs::lemmas::tables::Pieces::one_piece_more))]
-    fn with_counted(self, count: u32) -> Result<StrategyLists, AllocError>
-        ensures { IfOk result (λ all. all ≡ self ++ counted_labels count ∷ []) }
+    fn push_counted(&mut self, count: u32) -> Result<(), AllocError>
+        ensures { OnOk result (self.new ≡ self.old ++ counted_labels count ∷ []) }
     {
-        let StrategyLists {
-            mut labels,
-            mut ends,
-        } = self;
-        labels.extend_counted(count)?;
-        ends.push(labels.len())?;
-        Ok(StrategyLists { labels, ends })
+        self.ends.reserve(1)?;
+        let added = self.labels.extend_counted(count);
+        self.ends.push_reserved(self.labels.len());
+        added
     }
 
     /// These, and those of one more player, which are not copied if there are no labels so far.
@@ -96,7 +91,7 @@ impl StrategyLists {
     {
         let mut all = StrategyLists::new(alloc);
         for own in lists {
-            all = all.with(own)?;
+            all.push(own)?;
         }
         Ok(all)
     }
@@ -120,7 +115,7 @@ impl StrategyLists {
     {
         let mut all = StrategyLists::new(alloc);
         for count in counts {
-            all = all.with_counted(*count)?;
+            all.push_counted(*count)?;
         }
         Ok(all)
     }
@@ -139,7 +134,7 @@ impl StrategyLists {
         let mut start = 0;
         for count in counts {
             let end = labels.len().min(start + *count as usize);
-            all = all.with(&labels[start..end])?;
+            all.push(&labels[start..end])?;
             start = end;
         }
         Ok(all)

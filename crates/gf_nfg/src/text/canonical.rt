@@ -10,9 +10,9 @@ ghost use Rattle.gf_nfg.specs.TableText.{SpellsTable, lines_text, table_text};
 ghost use Rattle.gf_nfg.specs.TextPieces.{IsUngiven};
 ghost use Rattle.gf_nfg.specs.inner.TextParts.{heading_text, row_text};
 
-use crate::parts::Parts;
+use crate::heading::Heading;
 use crate::read::tell_nfg;
-use crate::receive::Version;
+use crate::receive::{Kept, Version};
 use crate::table::Table;
 use crate::table::frame::Frame;
 use crate::table::rows::Rows;
@@ -23,14 +23,18 @@ use gf_token::{Fault, Names, Why};
 use std::alloc::{AllocError, Global};
 
 /// A text that ends with a line for each profile.
-fn with_lines(alloc: Global, text: Vec<u8>, parts: Parts<'_>) -> Result<TextPieces, AllocError>
-    requires { IsComplete (content_of parts) }
+fn with_lines(
+    alloc: Global,
+    text: Vec<u8>,
+    heading: &Heading<'_>,
+    kept: Kept,
+) -> Result<TextPieces, AllocError>
+    requires { IsComplete (content_of heading.now kept) }
     ensures rest { IfOk result (λ whole. whole.rest ≡ text.items
-        ++ lines_text
-        (map row_text (rows_by (content_of parts.entry) parts.entry.kept.numbers.items))) }
+        ++ lines_text (map row_text (rows_by (content_of heading.now kept) kept.numbers.items))) }
     ensures ungiven { IfOk result IsUngiven }
 {
-    let rows = parts.rows(alloc)?;
+    let rows = heading.rows(alloc, kept)?;
     TextPieces::with_rows(alloc, text, rows)
 }
 
@@ -57,12 +61,12 @@ pub fn canonical_nfg(alloc: Global, input: &[u8], names: Names) -> Result<TextPi
         kept,
         ..
     } = text;
-    if version == Version::Payoffs {
-        return Ok(TextPieces::of(text));
-    }
-    match with_lines(alloc, text, Parts { heading, kept }) {
-        Ok(text) => Ok(text),
-        Err(_) => Err(Fault::at_end(input.len(), Why::Memory)),
+    match version {
+        Version::Payoffs => Ok(TextPieces::of(text)),
+        Version::Outcomes => match with_lines(alloc, text, &heading, kept) {
+            Ok(text) => Ok(text),
+            Err(_) => Err(Fault::at_end(input.len(), Why::Memory)),
+        },
     }
 }
 

@@ -110,15 +110,15 @@ impl Lines {
         }
     }
 
-    /// These, and the line of one more row.
+    /// Adds the line of one more row. If memory is refused, a part of it may have been added.
     #[tactic(auto, using(crate::proofs::lemmas::tables::Pieces::one_piece_more))]
-    fn with(self, row: &[Fraction]) -> Result<Lines, AllocError>
-        ensures { IfOk result (λ all. all ≡ self ++ line_text row.now ∷ []) }
+    fn push(&mut self, row: &[Fraction]) -> Result<(), AllocError>
+        ensures { OnOk result (self.new ≡ self.old ++ line_text row.now ∷ []) }
     {
-        let Lines { mut text, mut ends } = self;
-        write_line(row, &mut text)?;
-        ends.push(text.len())?;
-        Ok(Lines { text, ends })
+        self.ends.reserve(1)?;
+        let written = write_line(row, &mut self.text);
+        self.ends.push_reserved(self.text.len());
+        written
     }
 
     /// The line of each row, made in the order of the rows in memory.
@@ -128,7 +128,7 @@ impl Lines {
     {
         let mut lines = Lines::none(alloc);
         for number in 0..rows.len() {
-            lines = lines.with(rows.row(number))?;
+            lines.push(rows.row(number))?;
         }
         Ok(lines)
     }

@@ -39,41 +39,38 @@ spells_one_table bytes t u h k = one_table (tokens_of h.0) t u h.2 (spelled_as b
 
 -- ---- profiles
 
--- a token makes them no fewer
-step_grows : (s after : State) (t : Token) → step s t ≡ Ok after
-    → s.content.profiles ≤ after.content.profiles
-step_grows s after t e = grind arith
-
--- if it increases their number, it is one of these
-pub makes_more : (s after : State) (t : Token)
-    → step s t ≡ Ok after → s.content.profiles < after.content.profiles → IsBareOrClosing t
-makes_more s after t e more = grind arith
-
 -- within their limit
 abbrev pub IsWithin : State → Type 0
 IsWithin s = s.content.profiles ≤ profile_limit
 
--- the limit is looked at wherever they may pass it
-abbrev IsLookedAt : Result State Why → Type 0
-IsLookedAt (Ok after) =
-    is_past after.position after.content.profiles ≡ nat_lt profile_limit after.content.profiles
-IsLookedAt (Err why) = Unit {0}
+-- A token makes them no fewer. If it increases their number, it is one of these, and after one of
+-- these no list is open. The limit is looked at wherever they may pass it.
+pub record Changes (s after : State) (t : Token) : Type 0 where
+  pub grows : s.content.profiles ≤ after.content.profiles
+  pub makes_more : s.content.profiles < after.content.profiles → IsBareOrClosing t
+  pub settles : IsBareOrClosing t
+      → reached after.position after.content.profiles ≡ after.content.profiles
+  pub looked_at : IsWithin s
+      → is_past after.position after.content.profiles ≡ nat_lt profile_limit after.content.profiles
 
-looked_at : (s : State) (t : Token) → nat_lt profile_limit s.content.profiles ≡ false
-    → IsLookedAt (step s t)
-looked_at s t few = grind arith
+abbrev ChangesBy : State → Token → Result State Why → Type 0
+ChangesBy s t (Ok after) = Changes s after t
+ChangesBy s t (Err why) = Unit {0}
 
-past_is : (s after : State) (t : Token) → step s t ≡ Ok after → IsWithin s
-    → is_past after.position after.content.profiles ≡ nat_lt profile_limit after.content.profiles
-past_is s after t e few = subst IsLookedAt e (looked_at s t (grind (arith, nat_tests)))
+changes_by : (s : State) (t : Token) → ChangesBy s t (step s t)
+changes_by s t = grind (arith, nat_tests)
+
+pub changes : (s after : State) (t : Token) → step s t ≡ Ok after → Changes s after t
+changes s after t e = subst (ChangesBy s t) e (changes_by s t)
 
 pub taken_past : (s after : State) (t : Token) → step s t ≡ Ok after → IsWithin s
     → profile_limit < after.content.profiles → taken s t ≡ Err TooManyProfiles
-taken_past s after t e few over = let past = past_is s after t e few in grind (arith, nat_tests)
+taken_past s after t e few over =
+    let past = (changes s after t e).looked_at few in grind (arith, nat_tests)
 
 pub taken_within : (s after : State) (t : Token) → step s t ≡ Ok after → IsWithin after
     → taken s t ≡ Ok after
-taken_within s after t e few = grind (arith, past_is s, step_grows s, nat_tests)
+taken_within s after t e few = grind (arith, changes s, nat_tests)
 
 -- where tokens lead that do not pass it
 pub stays : (ts : List Token) (s after : State) → IsWithin s → any_format.walk taken s ts ≡ Ok after
@@ -88,18 +85,13 @@ read_stays ts c e =
     let k = stays ts start m.0 (omega arith) m.1 in
     grind (arith, m.2, run_whole)
 
--- after one of these no list is open
-pub settles : (s after : State) (t : Token) → step s t ≡ Ok after → IsBareOrClosing t
-    → reached after.position after.content.profiles ≡ after.content.profiles
-settles s after t e h = grind arith
-
 -- ---- above the limit
 
 -- a walk makes them no fewer
 walk_grows : (ts : List Token) (s after : State) → walk s ts ≡ Ok after
     → s.content.profiles ≤ after.content.profiles
 walk_grows ts s after e = kept step (λ x. s.content.profiles ≤ x.content.profiles)
-    (λ x y t k f. let more = step_grows x y t f in omega (arith, k, more)) ts s after
+    (λ x y t k f. let more = changes x y t f in omega (arith, k, more.grows)) ts s after
     (omega arith) e
 
 -- so they are taken, if they lead to a state within the limit
@@ -145,4 +137,4 @@ stays_within ts s h within front back token parts is =
     let b = then_ok (step a.0 token) (λ x. walk x back) s a.2 in
     let grown = walk_grows back b.0 s b.2 in
     begins_within (front ++ token ∷ []) b.0 (walk_more step front token start a.0 b.0 a.1 b.1)
-    (omega (arith, grown, within, settles a.0 b.0 token b.1 is))
+    (omega (arith, grown, within, (changes a.0 b.0 token b.1).settles is))

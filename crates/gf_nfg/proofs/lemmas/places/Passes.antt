@@ -5,8 +5,8 @@ use Rattle.gf_nfg.proofs.Common.{List, Ok, Span, State, StaysWithinLimit, Token,
 use Rattle.gf_nfg.proofs.Common.{arith, cases_lt, inl, inr, profile_limit, refl, start, step, subst}
 use Rattle.gf_nfg.proofs.Common.{sym, tokens_of, ℕ, [], ◌++◌, ◌<◌, ◌∙◌, ◌∷◌, ◌≡◌, ◌↔◌}
 use Rattle.gf_nfg.specs.LimitPlace.{PassesLimit}
-use Rattle.gf_nfg.proofs.lemmas.places.Led.{IsWithin, begins_within, is_reader, makes_more}
-use Rattle.gf_nfg.proofs.lemmas.places.Led.{read_past, settles, stays_within}
+use Rattle.gf_nfg.proofs.lemmas.places.Led.{IsWithin, begins_within, changes, is_reader}
+use Rattle.gf_nfg.proofs.lemmas.places.Led.{read_past, stays_within}
 use Rattle.gf_nfg.proofs.lemmas.places.Rows.{follows}
 use Rattle.gf_nfg.proofs.lemmas.places.Steps.{place_of}
 use Rattle.gf_nfg.proofs.lemmas.runs.Common.{Leads, ok_is, walk}
@@ -50,7 +50,7 @@ within_from done (t ∷ ts) s after l e few stays =
     let m = walk_more step done t start s h.0 l h.1 in
     let fits : IsWithin h.0 = elim (cases_lt profile_limit h.0.content.profiles) [
       | inl more ↦
-          let b = stays done ts t refl (makes_more s h.0 t h.1 (omega (arith, few, more))) in
+          let b = stays done ts t refl ((changes s h.0 t h.1).makes_more (omega (arith, few, more))) in
           omega (arith, read_past (done ++ t ∷ []) h.0 m b.0 b.1 b.2, b.3)
       | inr less ↦ less
     ] in
@@ -74,7 +74,7 @@ machine_at ts t grows past first =
       over = elim (cases_lt profile_limit l.0.content.profiles) [
         | inl more ↦ more
         | inr less ↦
-            let settled = settles m.0 l.0 t steps grows in
+            let settled = (changes m.0 l.0 t steps).settles grows in
             let b = begins_within whole l.0 l.1 (omega (arith, less, settled)) in
             omega (arith, past.past b.0 b.1 b.2, b.3)
       ];
@@ -94,7 +94,7 @@ limit_by_files bytes span = (
         after = h.after;
         spelled = h.spelled;
         place = h.place;
-        grows = makes_more p.mid p.after t p.steps (omega (arith, p.within, p.over));
+        grows = (changes p.mid p.after t p.steps).makes_more (omega (arith, p.within, p.over));
         past = record {
           begins = begins is_reader (ts ++ t ∷ []) p.after whole;
           past = λ more table sentence.

@@ -4,11 +4,13 @@ use Rattle.gf_nfg.proofs.Common.{join_with_byte, append_assoc, AreSpellings, len
 use Rattle.gf_nfg.proofs.Common.{length-take, append-nil, and_parts, take_more, label_of, and_from}
 use Rattle.gf_nfg.proofs.Common.{IsLabel, RisesTo, length, arith, Label, true, List, ◌++◌, Some, ap}
 use Rattle.gf_nfg.proofs.Common.{take, refl, ◌≡◌, ◌+◌, ◌∷◌, map, ◌∙◌, sym, sum, [], ℕ}
-use Rattle.gf_nfg.proofs.Common.{◌-◌, ◌<◌, ◌^◌, ◌==◌, decimal, false, nat_tests, numbers_from}
+use Rattle.gf_nfg.proofs.Common.{◌<◌, ◌^◌, ◌==◌, counted_labels, decimal, false, length-append}
+use Rattle.gf_nfg.proofs.Common.{map-append, nat_tests}
 use Rattle.gf_nfg.specs.TableParts.{dashed}
 use Rattle.std.specs.Str.Parse.{AllDigits}
 use Rattle.std.proofs.lemmas.Fmt.{decimal_is_IsNumeral_wide}
 use Rattle.gf_nfg.proofs.lemmas.tables.Lists.{sum-cons}
+use Rattle.gf_nfg.proofs.lemmas.tables.NumbersInTurn.{numbers_joined}
 use Rattle.gf_nfg.proofs.lemmas.tables.Pieces.{rises_within}
 
 -- ---- how long they are
@@ -79,12 +81,8 @@ digits_label before (b ∷ bytes) e h = grind (arith, nat_tests, digits_label b 
 pub decimal_label : (n : ℕ) → n < 10 ^ 64 → IsLabel (decimal n)
 decimal_label n h = digits_label 34 (decimal n) refl (decimal_is_IsNumeral_wide n h).0.1
 
--- the labels of the numbers after this one
-abbrev pub counted_rest : ℕ → ℕ → List (List ℕ)
-counted_rest before count = map decimal (numbers_from (before + 1) (count - before))
+pub counted_more : (n : ℕ)
+    → counted_labels (n + 1) ≡ counted_labels n ++ decimal (n + 1) ∷ []
+counted_more n = grind (arith, map-append, numbers_joined 1 n 1)
 
-pub counted_more : (before count : ℕ) → before < count
-    → counted_rest before count ≡ decimal (before + 1) ∷ counted_rest (before + 1) count
-counted_more before count h = grind arith
-
-pub ruleset one_count_more = (append_assoc, counted_more, decimal_label)
+pub ruleset one_count_more = (append_assoc, counted_more, decimal_label, length-append)

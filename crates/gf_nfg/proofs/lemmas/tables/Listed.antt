@@ -4,6 +4,7 @@ use Rattle.gf_nfg.proofs.Common
 use Common.{IsWithinLimit, content_with, HasToldTable, SpellsTable, table_with, IsComplete, IsTable}
 use Common.{content_in, content_of, append-nil, length-map, IsCompared, MeansTable, slice_get, List}
 use Common.{SameTable, mul_comm, frame_in, table_of, named_by, frame_by, Content, Payoffs, Heading}
+use Common.{Outcomes}
 use Common.{length, IsTrue, arith, Ratio, Table, Frame, ◌++◌, rows, Some, Bool, Names, true}
 use Common.{◌==◌, drop, ◌≡◌, ◌<◌, ◌+◌, ◌∷◌, sym, ◌∙◌, ◌↔◌, [], ap, ℕ}
 use Rattle.gf_nfg.specs.inner.ListedTable.{IsListed, IsListing, listed}
@@ -57,7 +58,7 @@ module _ (bytes : List ℕ) (heading : Heading) (l : Listing)
   in_turn_means frame is none = grind (arith, in_turn_told frame is none)
 
   pub parts_told : ¬ (l.kept.numbers.items ≡ [])
-      → MeansTable bytes (content_of (record { heading = heading; kept = l.kept }))
+      → MeansTable bytes (content_of heading l.kept)
   parts_told some = grind arith
 
 -- ---- the same table by its frame and rows
@@ -125,9 +126,9 @@ module _ (t : Table) (bytes : List ℕ) (heading : Heading) (c : Comparison)
       let same = same_in_turn names t (table_of other) ht (is_table other h.means.complete) in
       grind arith
 
-  pub parts_kept : ¬ (c.version ≡ Payoffs)
-      → MeansTable bytes (content_of (record { heading = heading; kept = c.kept }))
-  parts_kept not = grind arith
+  pub parts_kept : c.version ≡ Outcomes
+      → MeansTable bytes (content_of heading c.kept)
+  parts_kept is = grind arith
 
 -- the row at the next place
 pub next_row : (rs : List (List Ratio)) (row next all : List Ratio) (place : ℕ) → length row ≡ 0

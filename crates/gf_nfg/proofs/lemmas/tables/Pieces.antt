@@ -77,15 +77,16 @@ pieces-push from [] items more h = grind (arith, drop_at, take_all)
 pieces-push from (end ∷ ends) items more h =
     grind (arith, pieces-push end ends items more h.1, take_part, rises_within)
 
-pub rises-push : (from : ℕ) (ends : List ℕ) (whole more : ℕ) → RisesTo whole from ends
-    → RisesTo (whole + more) from (ends ++ (whole + more) ∷ [])
-rises-push from [] whole more h = (omega (arith, h), refl)
-rises-push from (end ∷ ends) whole more h = (h.0, rises-push end ends whole more h.1)
+pub rises-push : (from : ℕ) (ends : List ℕ) (whole next : ℕ) → RisesTo whole from ends
+    → whole ≤ next → RisesTo next from (ends ++ next ∷ [])
+rises-push from [] whole next h more = (omega (arith, h, more), refl)
+rises-push from (end ∷ ends) whole next h more = (h.0, rises-push end ends whole next h.1 more)
 
 -- a piece more
 pub rises-more : {A : Type 0} (ends : List ℕ) (items more : List A) → RisesTo (length items) 0 ends
     → RisesTo (length (items ++ more)) 0 (ends ++ length (items ++ more) ∷ [])
-rises-more ends items more h = grind (arith, length-append, rises-push)
+rises-more ends items more h =
+    let grown = length-append items more in rises-push 0 ends _ _ h (omega (arith, grown))
 
 pub pieces-more : {A : Type 0} (ends : List ℕ) (items more : List A)
     → RisesTo (length items) 0 ends

@@ -20,5 +20,5 @@ told_table holds bytes heading to told same means unnumbered holding =
 pub kept_means : (bytes : List ℕ) (heading : Heading) (kept : Kept)
     → HasToldTable (λ (k : Kept) (told : Told). (k.payoffs.items ≡ told.payoffs)
     × (k.numbers.items ≡ told.numbers)) bytes heading kept
-    → MeansTable bytes (content_of (record { heading = heading; kept = kept }))
+    → MeansTable bytes (content_of heading kept)
 kept_means bytes heading kept h = rw (h.holding.0, h.holding.1) h.means

@@ -3,7 +3,9 @@ use Rattle.gf_nfg.proofs.Common.{◌≡◌, ℕ, ◌+◌, ◌<◌, List, [], ◌
 use Rattle.gf_nfg.proofs.Common.{append_assoc, at_drop_more, refl, arith, take, Some, slice_get}
 use Rattle.gf_nfg.proofs.Common.{length-append, AllByRecursion, get_or-map, length-map, map-append}
 use Rattle.gf_nfg.proofs.Common.{get_or_from_slice_get, Ratio, line_text, lines_with}
-use Rattle.gf_nfg.proofs.Common.{row_text, lines_text, subst, sym}
+use Rattle.gf_nfg.proofs.Common.{row_text, lines_text, subst, sym, Err, Ok, OnErr, Result, Keeps, ◌≤◌}
+use Rattle.gf_nfg.proofs.Common.{length-take}
+use Rattle.std.specs.Prelude.{OnOk}
 use Rattle.gf_nfg.proofs.lemmas.tables.LabelLists.{one_taken_at}
 
 -- that of one more row
@@ -15,6 +17,12 @@ line_more rows number row found =
     rw (one_taken_at rows number row found) (map-append line_text (take number rows) (row ∷ []))
 
 pub ruleset lines_more = (line_more)
+
+-- a text grows, whether a line was written or only a part of it
+pub line_grows : {A E : Type 0} (r : Result A E) (old new line : List ℕ) → OnOk r (new ≡ old ++ line)
+    → OnErr r (Keeps old new) → length old ≤ length new
+line_grows (Ok a) old new line whole kept = grind (arith, length-append)
+line_grows (Err e) old new line whole kept = grind (arith, length-take)
 
 -- ---- chosen lines
 

@@ -4,7 +4,7 @@ use Common.{IsWithinLimit, content_with, heading_text, HasToldTable, SpellsTable
 use Common.{append-nil, all_weaker, IsComplete, content_of, lines_text, table_text, MeansTable, suc}
 use Common.{laid_lines, frame_in, table_of, named_by, frame_by, row_text, mul_comm, arith}
 use Common.{Content, rows_by, rows_of, AreLaid, HasText, Heading, Payoffs, length, Ratio, Table, []}
-use Common.{zero, Names, List, ◌++◌, refl, ◌*◌, ◌<◌, ◌∷◌, map, sym, ◌∙◌, ap, ℕ}
+use Common.{zero, Names, List, Outcomes, ◌++◌, refl, ◌*◌, ◌<◌, ◌∷◌, map, sym, ◌∙◌, ap, ℕ}
 use Rattle.gf_nfg.specs.inner.TextParts.{payoffs_text}
 use Rattle.gf_nfg.specs.declared.text.ToldText.{ToldText}
 use Rattle.gf_nfg.proofs.lemmas.tables.Lists.{full_in_turn, no_counts, rows_in_turn}
@@ -65,6 +65,6 @@ pub record BeginsText (bytes : List ℕ) (names : Names) (c : Content) (text : L
   pub text_is : text ≡ heading_text (frame_by names (frame_in c))
 
 pub outcomes_begin : (bytes : List ℕ) (heading : Heading) (names : Names) (t : ToldText)
-    → ¬ (t.version ≡ Payoffs) → HasToldTable (HasText names) bytes heading t
-    → BeginsText bytes names (content_of (record { heading = heading; kept = t.kept })) t.text.items
-outcomes_begin bytes heading names t not h = grind arith
+    → t.version ≡ Outcomes → HasToldTable (HasText names) bytes heading t
+    → BeginsText bytes names (content_of heading t.kept) t.text.items
+outcomes_begin bytes heading names t is h = grind arith

@@ -2,5 +2,5 @@ use Rattle.gf_nfg.proofs.Common.{arith}
 use Rattle.std.proofs.lemmas.Grind.{common_steps}
 use Rattle.gf_nfg.proofs.text.ToldTextReceive.payoff.Goals as goal
 
-pub returns-clause-told : goal.returns-clause-told
-returns-clause-told c = grind (arith, common_steps)
+pub returns-in_ok-self-in-Payoffs-clause-told : goal.returns-in_ok-self-in-Payoffs-clause-told
+returns-in_ok-self-in-Payoffs-clause-told c = grind (arith, common_steps)

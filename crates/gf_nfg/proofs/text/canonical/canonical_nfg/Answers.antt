@@ -1,21 +1,20 @@
-use Rattle.gf_nfg.proofs.Common.{◌∙◌, ◌++◌, List, ℕ, ap, map, refl, rules, Memory, rows_by}
+use Rattle.gf_nfg.proofs.Common.{◌∙◌, ◌++◌, List, ℕ, ap, map, refl, Memory, rows_by}
 use Rattle.gf_nfg.proofs.Common.{table_of, content_of, lines_text, row_text}
 use Rattle.gf_nfg.proofs.lemmas.places.Judged.{memory_at_end}
 use Rattle.gf_nfg.proofs.lemmas.texts.Told.{outcomes_begin, payoffs_written, text_with}
 use Rattle.gf_nfg.proofs.text.canonical.canonical_nfg.Goals as goal
 
-pub returns-then-eq-clause-text : goal.returns-then-eq-clause-text
-returns-then-eq-clause-text c =
+pub returns-in-Payoffs-clause-text : goal.returns-in-Payoffs-clause-text
+returns-in-Payoffs-clause-text c =
     let told = rw c.new-text.ensures.names at c.in_ok-heading.ensures.told in
-    let h = payoffs_written _ _ c.args.names c.tell_nfg.new.to (search rules) told in
+    let h = payoffs_written _ _ c.args.names c.tell_nfg.new.to c.in-Payoffs.is told in
     (h.0, h.1, h.2, c.of.ensures.rest ∙ h.3)
 
 pub returns-in-Ok-clause-text : goal.returns-in-Ok-clause-text
 returns-in-Ok-clause-text c =
-    let content = content_of
-    (record { heading = c.in_ok-heading.heading; kept = c.tell_nfg.new.to.kept }) in
+    let content = content_of c.in_ok-heading.heading c.tell_nfg.new.to.kept in
     let told = rw c.new-text.ensures.names at c.in_ok-heading.ensures.told in
-    let begun = outcomes_begin _ _ c.args.names c.tell_nfg.new.to (search rules) told in (
+    let begun = outcomes_begin _ _ c.args.names c.tell_nfg.new.to c.in-Outcomes.is told in (
       table_of content,
       begun.means.spelled,
       begun.means.within,
@@ -24,8 +23,8 @@ returns-in-Ok-clause-text c =
           (map row_text (rows_by content content.choices))) begun.text_is),
     )
 
-pub returns-in-Err-clause-judged : goal.returns-in-Err-clause-judged
-returns-in-Err-clause-judged c =
+pub returns-clause-judged : goal.returns-clause-judged
+returns-clause-judged c =
     let told = rw c.new-text.ensures.names at c.in_ok-heading.ensures.told in
-    let means = (outcomes_begin _ _ c.args.names c.tell_nfg.new.to (search rules) told).means in
+    let means = (outcomes_begin _ _ c.args.names c.tell_nfg.new.to c.in-Outcomes.is told).means in
     memory_at_end _ _ c.at_end.result Memory means.spelled means.within c.at_end.ensures refl
