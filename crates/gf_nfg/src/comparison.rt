@@ -106,13 +106,6 @@ impl<'t> Comparison<'t> {
         }
     }
 
-    /// Whether no difference was found, if nothing more is told.
-    fn has_ended(&mut self) -> bool
-        ensures { IsTrue result ↔ (IsTrue self.old.same × (self.old.left ≡ [])) }
-    {
-        self.same && self.left.next().is_none()
-    }
-
     /// Whether the table is the same as that which was told with this heading; title and comment
     /// count if `names` are kept.
     fn is_same(
@@ -150,7 +143,10 @@ impl<'t> Comparison<'t> {
             × (IsTrue self.old.same × (self.old.left ≡ [])))) }
     {
         let frame = heading.frame(alloc)?;
-        Ok(same_frame(own, &frame, names) && self.has_ended())
+        let same = same_frame(own, &frame, names);
+        // A call is cheaper to check than the drop where the scope ends.
+        drop(frame);
+        Ok(same && self.same && self.left.next().is_none())
     }
 }
 
@@ -168,11 +164,12 @@ fn same_parts(
         (named_by names (table_of (content_of heading.now kept)))) }
 {
     let other = heading.table(alloc, kept)?;
-    same_table(alloc, t, &other, names)
+    let same = same_table(alloc, t, &other, names);
+    drop(other);
+    same
 }
 
 /// Whether both tables are the same; title and comment count if `names` are kept.
-#[tactic(auto, using(crate::proofs::lemmas::tables::Listed::same_listed))]
 fn same_table(
     alloc: Global,
     t: &ListedTable,
@@ -235,5 +232,7 @@ pub fn compare_nfg(
 {
     let mut comparison = Comparison::new(alloc, t);
     let heading = tell_nfg(alloc, input, &mut comparison)?;
-    Ok(comparison.is_same(alloc, t, &heading, names)?)
+    let same = comparison.is_same(alloc, t, &heading, names);
+    drop(heading);
+    Ok(same?)
 }

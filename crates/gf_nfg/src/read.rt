@@ -22,7 +22,6 @@ use std::alloc::Global;
 ///
 /// Those of `read_nfg`, also if the receiver is refused memory; the receiver has then been told a
 /// part of the file.
-#[tactic(auto, using(crate::proofs::lemmas::places::Judged::judged))]
 pub(crate) fn tell_nfg<'a, R: Receive<'a>>(
     alloc: Global,
     input: &'a [u8],
@@ -37,7 +36,7 @@ pub(crate) fn tell_nfg<'a, R: Receive<'a>>(
 {
     let mut reader = Reader::new(alloc, input);
     reader.tell(to)?;
-    Ok(reader.into_heading())
+    Ok(reader.heading)
 }
 
 /// Whether bytes are a strategic file. Nothing of it is kept.
@@ -52,7 +51,8 @@ pub fn check_nfg(alloc: Global, input: &[u8]) -> Result<(), Fault>
         → fault.why ≡ Memory) }
     ensures judged { IfErr result (λ fault. IsJudged fault.why input.now fault.span) }
 {
-    tell_nfg(alloc, input, &mut Unkept)?;
+    let heading = tell_nfg(alloc, input, &mut Unkept)?;
+    drop(heading);
     Ok(())
 }
 
@@ -86,7 +86,10 @@ pub fn read_nfg(alloc: Global, input: &[u8]) -> Result<Table, Fault>
 {
     let mut kept = Kept::new(alloc);
     let heading = tell_nfg(alloc, input, &mut kept)?;
-    match heading.table(alloc, kept) {
+    let table = heading.table(alloc, kept);
+    // A call is cheaper to check than the drop where the scope ends.
+    drop(heading);
+    match table {
         Ok(table) => Ok(table),
         Err(error) => Err(Fault::at_end(input.len(), error.into())),
     }
@@ -105,7 +108,9 @@ pub fn list_nfg(alloc: Global, input: &[u8]) -> Result<ListedTable, Fault>
 {
     let mut listing = Listing::new(alloc);
     let heading = tell_nfg(alloc, input, &mut listing)?;
-    match ListedTable::told(alloc, &heading, listing) {
+    let table = ListedTable::told(alloc, &heading, listing);
+    drop(heading);
+    match table {
         Ok(table) => Ok(table),
         Err(error) => Err(Fault::at_end(input.len(), error.into())),
     }

@@ -27,7 +27,7 @@ use std::alloc::Global;
 pub struct Reader<'a> {
     tokens: Cursor<'a>,
     /// What was read of it so far.
-    heading: Heading<'a>,
+    pub(crate) heading: Heading<'a>,
     /// The input cannot hold more numbers than this.
     room: usize,
 }
@@ -161,12 +161,5 @@ impl<'a> Reader<'a> {
             Version::Payoffs => self.tell_payoffs(to),
             Version::Outcomes => self.tell_outcomes(to),
         }
-    }
-
-    /// The heading that was read.
-    pub(crate) fn into_heading(self) -> Heading<'a>
-        ensures { result ≡ self.entry.heading }
-    {
-        self.heading
     }
 }

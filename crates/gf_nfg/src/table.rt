@@ -142,7 +142,6 @@ impl Table {
     }
 
     /// The table of this frame and of payoffs in the order of a file.
-    #[tactic(auto, using(crate::proofs::lemmas::tables::Made::made_in_turn))]
     fn in_turn(alloc: Global, frame: Frame, rows: Vec<Fraction>) -> Result<Table, AllocError>
         requires { AreParts frame rows.items }
         ensures { IfOk result (λ t. IsTableOf t frame.title frame.comment frame.players

@@ -63,7 +63,10 @@ fn write_told(heading: &Heading<'_>, names: Names, out: &mut Vec<u8>) -> Result<
         ++ heading_text (frame_by names (frame_in (content_in heading.now)))) }
 {
     let frame = heading.frame(*out.allocator())?;
-    write_heading(&frame, names, out)
+    let written = write_heading(&frame, names, out);
+    // A call is cheaper to check than the drop where the scope ends.
+    drop(frame);
+    written
 }
 
 /// Appends a payoff, and a space or the line feed that ends its line. Lines have `width` payoffs,

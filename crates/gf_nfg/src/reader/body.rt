@@ -17,7 +17,6 @@ use crate::receive::Receive;
 use gf_token::{Cursor, Fault, What, Why};
 
 /// Reads a payoff, and tells it.
-#[tactic(auto, using(gf_fraction::proofs::Offered::number_answers))]
 #[inline(always)]
 fn payoff<'a, R: Receive<'a>>(tokens: &mut Cursor<'a>, to: &mut R) -> Result<(), Fault>
     ensures flat { (b : Telling R) (due : ℕ) → 0 < due → GoesTo b result
@@ -140,7 +139,6 @@ pub(super) fn outcomes<'a, R: Receive<'a>>(
 }
 
 /// Reads the number of one of this many outcomes, and tells it.
-#[tactic(auto, using(gf_token::proofs::Offered::index_answers))]
 #[inline(always)]
 fn number<'a, R: Receive<'a>>(
     tokens: &mut Cursor<'a>,

@@ -8,14 +8,12 @@ ghost use Rattle.gf_nfg.specs.inner.Meaning.{IsComplete, rows_by};
 ghost use Rattle.gf_nfg.specs.inner.ReaderState.{content_of};
 ghost use Rattle.gf_nfg.specs.TableText.{SpellsTable, lines_text, table_text};
 ghost use Rattle.gf_nfg.specs.TextPieces.{IsUngiven};
-ghost use Rattle.gf_nfg.specs.inner.TextParts.{heading_text, row_text};
+ghost use Rattle.gf_nfg.specs.inner.TextParts.{row_text};
 
 use crate::heading::Heading;
 use crate::read::tell_nfg;
 use crate::receive::{Kept, Version};
 use crate::table::Table;
-use crate::table::frame::Frame;
-use crate::table::rows::Rows;
 use crate::text::ToldText;
 use crate::text::pieces::TextPieces;
 use crate::text::write::write_heading;
@@ -71,13 +69,13 @@ pub fn canonical_nfg(alloc: Global, input: &[u8], names: Names) -> Result<TextPi
 }
 
 /// The heading of a table, and the lines of its rows.
-fn with_rows(alloc: Global, frame: &Frame, rows: Rows) -> Result<TextPieces, AllocError>
-    ensures rest { IfOk result
-        (λ t. t.rest ≡ heading_text frame.now ++ lines_text (map row_text rows)) }
+fn with_rows(alloc: Global, t: Table) -> Result<TextPieces, AllocError>
+    ensures rest { IfOk result (λ text. text.rest ≡ table_text t) }
     ensures ungiven { IfOk result IsUngiven }
 {
     let mut text = Vec::new(alloc);
-    write_heading(frame, Names::Kept, &mut text)?;
+    write_heading(t.frame(), Names::Kept, &mut text)?;
+    let (_, rows) = t.into_parts();
     TextPieces::with_rows(alloc, text, rows)
 }
 
@@ -91,9 +89,8 @@ pub fn text_of(alloc: Global, t: Table) -> Result<TextPieces, AllocError>
     ensures rest { IfOk result (λ text. text.rest ≡ table_text t) }
     ensures none { IfOk result (λ text. text.piece ≡ []) }
 {
-    let (frame, rows) = t.into_parts();
-    if rows.shared().is_none() {
-        return TextPieces::of_table(alloc, frame, rows);
+    if t.rows().shared().is_none() {
+        return TextPieces::of_table(alloc, t);
     }
-    with_rows(alloc, &frame, rows)
+    with_rows(alloc, t)
 }

@@ -4,11 +4,12 @@
 ghost use Rattle.std.specs.Prelude.{◌≡◌, ◌+◌, ◌*◌, ◌<◌, ◌≤◌, ◌++◌, [], false, true, IfOk};
 ghost use Rattle.std.specs.Prelude.{MatchOption, OnOk, get_or, length, map, vec_capacity};
 ghost use Rattle.std.specs.List.{AllByRecursion};
-ghost use Rattle.gf_nfg.specs.TableText.{lines_text};
+ghost use Rattle.gf_nfg.specs.TableText.{lines_text, table_text};
 ghost use Rattle.gf_nfg.specs.TextPieces.{IsUngiven};
 ghost use Rattle.gf_nfg.specs.inner.ListsLeft.{size_of};
-ghost use Rattle.gf_nfg.specs.inner.TextParts.{ending_text, front_text, heading_text, row_text};
+ghost use Rattle.gf_nfg.specs.inner.TextParts.{ending_text, front_text, row_text};
 
+use crate::table::Table;
 use crate::table::frame::Frame;
 use crate::table::rows::{NumberedRows, Rows};
 use crate::text::lines::{Lines, write_lines};
@@ -142,19 +143,14 @@ impl TextPieces {
 
     /// The text of a table. The strategies are made as it is given, and so is the line of each
     /// profile.
-    pub(crate) fn of_table(
-        alloc: Global,
-        frame: Frame,
-        rows: Rows,
-    ) -> Result<TextPieces, AllocError>
-        requires { AllByRecursion (λ row. length row ≡ length frame.players) rows }
-        ensures rest { IfOk result
-            (λ t. t.rest ≡ heading_text frame ++ lines_text (map row_text rows)) }
-        ensures none { IfOk result (λ t. t.piece ≡ []) }
+    pub(crate) fn of_table(alloc: Global, t: Table) -> Result<TextPieces, AllocError>
+        ensures rest { IfOk result (λ text. text.rest ≡ table_text t) }
+        ensures none { IfOk result (λ text. text.piece ≡ []) }
     {
         let mut piece = Vec::new(alloc);
         let mut ending = Vec::new(alloc);
-        write_around(&frame, &mut piece, &mut ending)?;
+        write_around(t.frame(), &mut piece, &mut ending)?;
+        let (frame, rows) = t.into_parts();
         Ok(TextPieces {
             piece,
             begun: false,

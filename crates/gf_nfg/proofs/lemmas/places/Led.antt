@@ -4,7 +4,7 @@ use Rattle.gf_nfg.proofs.Common.{BeginsWithinLimit, StaysWithinLimit, IsBareOrCl
 use Rattle.gf_nfg.proofs.Common.{IsStrategicFile, profile_limit, same_tokens, append-nil, tokens_of}
 use Rattle.gf_nfg.proofs.Common.{Sentence, table_of, is_past, Content, TooManyProfiles, nat_lt}
 use Rattle.gf_nfg.proofs.Common.{finish, within, Lexeme, Spells, Result, length, Table, run, State}
-use Rattle.gf_nfg.proofs.Common.{start, taken, Token, arith, subst, step, List, nat_tests, false}
+use Rattle.gf_nfg.proofs.Common.{start, taken, Token, arith, subst, step, List, nat_tests}
 use Rattle.gf_nfg.proofs.Common.{◌++◌, Err, Why, sym, ◌<◌, ◌∙◌, ◌∷◌, ◌≡◌, ◌≤◌, Ok, [], ℕ}
 use Rattle.gf_token.specs.Offered as any_format
 use Rattle.gf_token.proofs.Offered.{IsReader, kept, run_after, run_split, run_whole, then_ok}

@@ -12,7 +12,7 @@ pub returns-in-Ok-clause-only : goal.returns-in-Ok-clause-only
 returns-in-Ok-clause-only c = λ t spells within.
     spells_one_table _ _ t (c.in-Ok.ensures _ c.in_ok-heading.ensures.told).0 spells
 
-pub returns-clause-judged : goal.returns-clause-judged
-returns-clause-judged c =
+pub returns-in-Err-clause-judged : goal.returns-in-Err-clause-judged
+returns-in-Err-clause-judged c =
     let m = c.in_ok-heading.ensures.told.means in
     memory_at_end _ _ _ _ m.spelled m.within c.at_end.ensures c.into.ensures

@@ -9,7 +9,7 @@ returns-in-Ok-clause-only c = λ t spells within.
     c.in-Ok.ensures
     ∙ spells_one_table _ _ t (kept_means _ _ _ c.in_ok-heading.ensures.told).spelled spells
 
-pub returns-clause-judged : goal.returns-clause-judged
-returns-clause-judged c =
+pub returns-in-Err-clause-judged : goal.returns-in-Err-clause-judged
+returns-in-Err-clause-judged c =
     let h = kept_means _ _ _ c.in_ok-heading.ensures.told in
     memory_at_end _ _ _ _ h.spelled h.within c.at_end.ensures c.into.ensures

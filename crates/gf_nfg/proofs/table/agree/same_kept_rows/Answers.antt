@@ -2,6 +2,7 @@ use Rattle.gf_nfg.proofs.Common.{◌∙◌, ◌≡◌, [], arith, get_or, get_or
 use Rattle.gf_nfg.proofs.lemmas.tables.Classes.{compared_more, row_at, row_in, rows_in}
 use Rattle.gf_nfg.proofs.table.agree.same_kept_rows.Goals.{else-unite-via-else-unite}
 use Rattle.gf_nfg.proofs.table.agree.same_kept_rows.Goals.{else-unite-via-then-unite+else-not-same_row}
+use Rattle.std.proofs.lemmas.Grind.{common_steps}
 use Rattle.gf_nfg.proofs.table.agree.same_kept_rows.Goals as goal
 
 pub loop-place-init : goal.loop-place-init
@@ -41,3 +42,18 @@ loop-place-preserved c =
     compared_more a b c.args.a.now c.args.b.now c.loop-place.classes c.unite.new.self at m n
     c.loop-place.invariant left.0 left.1 right.1 same c.unite.ensures.places
     (rw c.len-in-loop-place.ensures.len at c.unite.ensures.rows)
+
+pub returns : goal.returns
+returns c = grind (arith, common_steps)
+
+pub returns-then-m-n : goal.returns-then-m-n
+returns-then-m-n c = grind (arith, common_steps)
+
+pub row-requires : goal.row-requires
+row-requires c = grind (arith, common_steps)
+
+pub row-requires-then-unite : goal.row-requires-then-unite
+row-requires-then-unite c = grind (arith, common_steps)
+
+pub unite-requires : goal.unite-requires
+unite-requires c = grind (arith, common_steps)

@@ -1,11 +1,10 @@
 use Rattle.std.proofs.Common.{arith}
 use Rattle.gf_nfg.proofs.lemmas.tables.LabelLists.{joined_labels}
+use Rattle.std.proofs.lemmas.Grind.{common_steps}
 use Rattle.gf_nfg.proofs.table.labels.write_joined.Goals as goal
 
-pub returns-in_ok-write_dashed-in-Some-clause-text :
-    goal.returns-in_ok-write_dashed-in-Some-clause-text
-returns-in_ok-write_dashed-in-Some-clause-text c = grind (arith, joined_labels)
+pub returns-in_err-extend_from_slice-in-Some : goal.returns-in_err-extend_from_slice-in-Some
+returns-in_err-extend_from_slice-in-Some c = grind (arith, common_steps)
 
-pub returns-in_ok-write_dashed-in-Some-clause-label :
-    goal.returns-in_ok-write_dashed-in-Some-clause-label
-returns-in_ok-write_dashed-in-Some-clause-label c = grind (arith, joined_labels)
+pub returns-in_ok-write_dashed-in-Some : goal.returns-in_ok-write_dashed-in-Some
+returns-in_ok-write_dashed-in-Some c = grind (arith, joined_labels)

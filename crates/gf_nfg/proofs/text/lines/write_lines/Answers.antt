@@ -16,5 +16,5 @@ loop-place-preserved c = record {
 pub loop-place-init : goal.loop-place-init
 loop-place-init c = grind (arith, common_steps)
 
-pub returns-in_err-write_next-clause-full : goal.returns-in_err-write_next-clause-full
-returns-in_err-write_next-clause-full c = grind (arith, elements)
+pub returns-in_err-write_next : goal.returns-in_err-write_next
+returns-in_err-write_next c = grind (arith, elements)
