@@ -170,6 +170,7 @@ fn same_parts(
 }
 
 /// Whether both tables are the same; title and comment count if `names` are kept.
+#[tactic(auto, using(crate::proofs::lemmas::tables::Listed::same_listed))]
 fn same_table(
     alloc: Global,
     t: &ListedTable,

@@ -95,7 +95,7 @@ impl Labels {
 
     /// How many bytes the labels have, all together.
     // No edit: it returns a part.
-    #[tactic(auto, using(crate::proofs::lemmas::tables::LabelLists::labels_size))]
+    #[tactic(auto, using(crate::proofs::lemmas::tables::LabelLists::pieces_size))]
     pub fn size(&self) -> usize
         ensures { result ≡ sum (map length self.now) }
     {

@@ -36,6 +36,7 @@ fn write_others(payoffs: &[Fraction], out: &mut Vec<u8>) -> Result<(), AllocErro
 
 /// Appends the line of the payoffs at one profile, with a space between any two.
 #[inline(always)]
+#[tactic(auto, using(crate::proofs::lemmas::texts::Pieces::rows_spaced))]
 fn write_line(payoffs: &[Fraction], out: &mut Vec<u8>) -> Result<(), AllocError>
     ensures text { OnOk result (out.new.items ≡ out.old.items ++ line_text payoffs.now) }
     ensures kept { OnErr result (Keeps out.old.items out.new.items) }

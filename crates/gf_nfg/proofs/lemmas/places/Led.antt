@@ -2,6 +2,7 @@
 -- their limit they stay there.
 use Rattle.gf_nfg.proofs.Common.{BeginsWithinLimit, StaysWithinLimit, IsBareOrClosing, SpellsTable}
 use Rattle.gf_nfg.proofs.Common.{IsStrategicFile, profile_limit, same_tokens, append-nil, tokens_of}
+use Rattle.gf_nfg.proofs.Common.{Position, at}
 use Rattle.gf_nfg.proofs.Common.{Sentence, table_of, is_past, Content, TooManyProfiles, nat_lt}
 use Rattle.gf_nfg.proofs.Common.{finish, within, Lexeme, Spells, Result, length, Table, run, State}
 use Rattle.gf_nfg.proofs.Common.{start, taken, Token, arith, subst, step, List, nat_tests}
@@ -57,11 +58,12 @@ abbrev ChangesBy : State → Token → Result State Why → Type 0
 ChangesBy s t (Ok after) = Changes s after t
 ChangesBy s t (Err why) = Unit {0}
 
-changes_by : (s : State) (t : Token) → ChangesBy s t (step s t)
-changes_by s t = grind (arith, nat_tests)
+changes_by : (q : Position) (c : Content) (t : Token)
+    → ChangesBy (at q c) t (step (at q c) t)
+changes_by q c t = grind (arith, nat_tests)
 
 pub changes : (s after : State) (t : Token) → step s t ≡ Ok after → Changes s after t
-changes s after t e = subst (ChangesBy s t) e (changes_by s t)
+changes s after t e = subst (ChangesBy s t) e (changes_by s.position s.content t)
 
 pub taken_past : (s after : State) (t : Token) → step s t ≡ Ok after → IsWithin s
     → profile_limit < after.content.profiles → taken s t ≡ Err TooManyProfiles

@@ -16,16 +16,12 @@ use Rattle.gf_nfg.proofs.lemmas.tables.Pieces.{rises_within}
 -- ---- how long they are
 
 -- the pieces of a list are as long as the list
-pieces_size : {A : Type 0} (from : ℕ) (ends : List ℕ) (items : List A)
+pub pieces_size : {A : Type 0} (from : ℕ) (ends : List ℕ) (items : List A)
     → RisesTo (length items) from ends
     → from + sum (map length (pieces from ends items)) ≡ length items
 pieces_size from [] items h = omega (arith, h)
 pieces_size from (end ∷ ends) items h =
     grind (arith, length-take, length-drop, rises_within, sum-cons, pieces_size end ends items h.1)
-
-pub labels_size : (ends bytes : List ℕ) → RisesTo (length bytes) 0 ends
-    → sum (map length (pieces 0 ends bytes)) ≡ length bytes
-labels_size ends bytes h = omega (arith, pieces_size 0 ends bytes h)
 
 -- ---- how they are spelled
 

@@ -44,7 +44,7 @@ part_and_rest from n xs h =
     grind (arith, drop-drop (n - from) from xs, take-append-drop (n - from) (drop from xs))
 
 -- a list and its ends are known by the pieces
-cut_once : {A : Type 0} (from : ℕ) (ends stops : List ℕ) (xs ys : List A)
+pub cut_once : {A : Type 0} (from : ℕ) (ends stops : List ℕ) (xs ys : List A)
     → RisesTo (length xs) from ends → RisesTo (length ys) from stops
     → pieces from ends xs ≡ pieces from stops ys → (ends ≡ stops) × (drop from xs ≡ drop from ys)
 cut_once from [] [] xs ys h k e = (refl, grind (arith, drop_all))
@@ -58,11 +58,6 @@ cut_once from (end ∷ ends) (stop ∷ stops) xs ys h k e =
     let more = cut_once end ends stops xs ys h.1 (rw same k.1) (rest ∙ rw same refl) in
     (cc (same, more.0), cc (part_and_rest from end xs h.0, part_and_rest from stop ys k.0, more.1))
 cut_once from ends stops xs ys h k e = absurd cc
-
-pub one_cut : {A : Type 0} (ends stops : List ℕ) (xs ys : List A)
-    → RisesTo (length xs) 0 ends → RisesTo (length ys) 0 stops
-    → pieces 0 ends xs ≡ pieces 0 stops ys → (ends ≡ stops) × (xs ≡ ys)
-one_cut ends stops xs ys h k e = cut_once 0 ends stops xs ys h k e
 
 pub take_part : {A : Type 0} (n m : ℕ) (xs ys : List A) → m + n ≤ length xs
     → take n (drop m (xs ++ ys)) ≡ take n (drop m xs)
@@ -100,14 +95,10 @@ spelled-more ends bytes more h spelled = grind (arith, pieces-more, all_both)
 
 pub ruleset one_piece_more = (rises-more, pieces-more, spelled-more)
 
-pub within_ends : (ends bytes : List ℕ) (labels : List (List ℕ)) (at : ℕ)
-    → pieces 0 ends bytes ≡ labels → at < length labels → at < length ends
-within_ends ends bytes labels at v h = grind (arith, length-pieces)
-
-pub ruleset one_way_cut = (one_cut, slice_eq-Decides, Decides-eqb)
+pub ruleset one_way_cut = (cut_once, slice_eq-Decides, Decides-eqb)
 
 pub ruleset as_many_pieces = (length-pieces)
 
 pub ruleset cut_at = (drop, end_within, piece_at, start_before_end, take)
 
-pub ruleset one_piece = (within_ends, all_at)
+pub ruleset one_piece = (length-pieces, all_at)

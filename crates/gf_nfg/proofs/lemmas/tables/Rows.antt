@@ -161,12 +161,7 @@ module _ (count : ℕ) (rows all : List (List Ratio)) (place number : ℕ) where
       grind (arith, slice_get-get_or (k ∷ numbers) place 0) in
       grind (arith, all_at, slice_get-get_or, slice_get-map)
 
-pub are_shared : (count : ℕ) (rows all : List (List Ratio)) (numbers : List ℕ)
-    → AreNumbered count rows numbers → chosen_rows rows numbers ≡ all → 0 < length numbers
-    → AreShared all rows numbers
-are_shared count rows all numbers h view some = grind arith
-
-pub ruleset numbers_chosen = (are_shared, row_chosen)
+pub ruleset numbers_chosen = (row_chosen)
 
 -- ---- a table's counts
 

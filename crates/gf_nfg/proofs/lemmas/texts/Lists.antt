@@ -60,7 +60,7 @@ heading_written frame old front lists left out f e none h =
 
 -- ---- how many bytes their labels have
 
-sizes : (from : ℕ) (ends : List ℕ) (labels : List (List ℕ)) → RisesTo (length labels) from ends
+pub sizes : (from : ℕ) (ends : List ℕ) (labels : List (List ℕ)) → RisesTo (length labels) from ends
     → size_of (pieces from ends labels) ≡ sum_by length (drop from labels)
 sizes from [] labels h = grind (arith, drop_all)
 sizes from (end ∷ ends) labels h =
@@ -72,8 +72,4 @@ sizes from (end ∷ ends) labels h =
     let whole = rw past at (take-append-drop (end - from) (drop from labels)) in
     omega (arith, first, rw whole at both, sizes end ends labels h.1)
 
-pub size_is : (ends : List ℕ) (labels : List (List ℕ)) → RisesTo (length labels) 0 ends
-    → sum (map length labels) ≡ size_of (pieces 0 ends labels)
-size_is ends labels h = grind (arith, sizes, sum-map)
-
-pub ruleset size_of_pieces = (size_is)
+pub ruleset size_of_pieces = (sizes, sum-map)

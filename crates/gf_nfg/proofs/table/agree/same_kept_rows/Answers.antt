@@ -1,8 +1,7 @@
-use Rattle.gf_nfg.proofs.Common.{◌∙◌, ◌≡◌, [], arith, get_or, get_or_from_slice_get, refl, sym}
+use Rattle.gf_nfg.proofs.Common.{◌∙◌, ◌≡◌, [], arith, get_or, get_or_from_slice_get, refl, sym, common_steps}
 use Rattle.gf_nfg.proofs.lemmas.tables.Classes.{compared_more, row_at, row_in, rows_in}
 use Rattle.gf_nfg.proofs.table.agree.same_kept_rows.Goals.{else-unite-via-else-unite}
 use Rattle.gf_nfg.proofs.table.agree.same_kept_rows.Goals.{else-unite-via-then-unite+else-not-same_row}
-use Rattle.std.proofs.lemmas.Grind.{common_steps}
 use Rattle.gf_nfg.proofs.table.agree.same_kept_rows.Goals as goal
 
 pub loop-place-init : goal.loop-place-init

@@ -1,5 +1,4 @@
-use Rattle.gf_nfg.proofs.Common.{arith}
-use Rattle.std.proofs.lemmas.Grind.{common_steps}
+use Rattle.gf_nfg.proofs.Common.{arith, common_steps}
 use Rattle.gf_nfg.proofs.table.labels.write_dashed.Goals as goal
 
 pub loop-part-init : goal.loop-part-init

@@ -1,6 +1,5 @@
-use Rattle.std.proofs.Common.{arith}
+use Rattle.gf_nfg.proofs.Common.{arith, common_steps}
 use Rattle.gf_nfg.proofs.lemmas.tables.LabelLists.{joined_labels}
-use Rattle.std.proofs.lemmas.Grind.{common_steps}
 use Rattle.gf_nfg.proofs.table.labels.write_joined.Goals as goal
 
 pub returns-in_err-extend_from_slice-in-Some : goal.returns-in_err-extend_from_slice-in-Some

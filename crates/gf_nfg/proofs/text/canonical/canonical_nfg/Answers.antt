@@ -1,5 +1,5 @@
-use Rattle.gf_nfg.proofs.Common.{◌∙◌, ◌++◌, List, ℕ, ap, map, refl, Memory, rows_by}
-use Rattle.gf_nfg.proofs.Common.{table_of, content_of, lines_text, row_text}
+use Rattle.gf_nfg.proofs.Common.{◌∙◌, ◌++◌, List, ℕ, ap, map, refl, Memory, rows_by, table_of}
+use Rattle.gf_nfg.proofs.Common.{content_of, lines_text, row_text}
 use Rattle.gf_nfg.proofs.lemmas.places.Judged.{memory_at_end}
 use Rattle.gf_nfg.proofs.lemmas.texts.Told.{outcomes_begin, payoffs_written, text_with}
 use Rattle.gf_nfg.proofs.text.canonical.canonical_nfg.Goals as goal

@@ -1,6 +1,4 @@
-use Rattle.std.proofs.lemmas.Grind.{elements}
-use Rattle.gf_nfg.proofs.Common.{arith}
-use Rattle.std.proofs.lemmas.Grind.{common_steps}
+use Rattle.gf_nfg.proofs.Common.{arith, elements, common_steps}
 use Rattle.gf_nfg.proofs.lemmas.texts.Pieces.{row_begun, row_written}
 use Rattle.gf_nfg.proofs.text.lines.write_lines.Goals as goal
 

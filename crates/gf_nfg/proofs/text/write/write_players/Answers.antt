@@ -1,5 +1,4 @@
-use Rattle.gf_nfg.proofs.Common.{append_assoc, arith, get_or_from_slice_get}
-use Rattle.std.proofs.lemmas.Grind.{common_steps}
+use Rattle.gf_nfg.proofs.Common.{append_assoc, arith, get_or_from_slice_get, common_steps}
 use Rattle.gf_nfg.proofs.lemmas.texts.Pieces.{name_next, names_closed}
 use Rattle.gf_nfg.proofs.text.write.write_players.Goals as goal
 

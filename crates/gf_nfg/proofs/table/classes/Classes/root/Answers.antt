@@ -1,5 +1,4 @@
-use Rattle.gf_nfg.proofs.Common.{arith}
-use Rattle.std.proofs.lemmas.Grind.{elements}
+use Rattle.gf_nfg.proofs.Common.{arith, elements}
 use Rattle.gf_nfg.proofs.table.classes.Classes.root.Goals as goal
 
 pub loop-at-smaller : goal.loop-at-smaller

@@ -1,5 +1,4 @@
-use Rattle.gf_nfg.proofs.Common.{arith}
-use Rattle.std.proofs.lemmas.Grind.{elements}
+use Rattle.gf_nfg.proofs.Common.{arith, elements}
 use Rattle.gf_nfg.proofs.table.classes.Classes.unite.Goals as goal
 
 pub returns-clause-rows : goal.returns-clause-rows

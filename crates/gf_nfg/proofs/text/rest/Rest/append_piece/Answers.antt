@@ -1,5 +1,4 @@
-use Rattle.gf_nfg.proofs.Common.{arith}
-use Rattle.std.proofs.lemmas.Grind.{common_steps}
+use Rattle.gf_nfg.proofs.Common.{arith, common_steps}
 use Rattle.gf_nfg.proofs.text.rest.Rest.append_piece.Goals as goal
 
 pub append_until-requires : goal.append_until-requires
