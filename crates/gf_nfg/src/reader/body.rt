@@ -139,6 +139,7 @@ pub(super) fn outcomes<'a, R: Receive<'a>>(
 }
 
 /// Reads the number of one of this many outcomes, and tells it.
+#[tactic(auto, using(gf_token::proofs::Offered::index_answers))]
 #[inline(always)]
 fn number<'a, R: Receive<'a>>(
     tokens: &mut Cursor<'a>,

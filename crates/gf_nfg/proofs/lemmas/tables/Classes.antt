@@ -48,5 +48,4 @@ pub compared_more : (a b xs ys : List (List Ratio)) (old parents : List ℕ) (at
     → ((row : ℕ → List Ratio) → row m ≡ row (length a + n) → ShareRows row old
     → ShareRows row parents) → IsCompared a b xs ys parents (at + 1)
 compared_more a b xs ys old parents at m n done h left right same size rows =
-    let both = rows_in a b m n h in
-    grind (arith, same_more xs ys at (get_or a m []) (get_or b n []), rows (row_in a b))
+    grind (arith, rows_in, same_more, rows (row_in a b))

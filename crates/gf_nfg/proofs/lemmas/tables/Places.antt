@@ -67,11 +67,7 @@ pub strategy_out : {frame : Frame} {profile : List ℕ} {at place count : ℕ}
     → AtPlayer frame profile at place count
     → (get_or profile at 0 ≡ 0) ⊎ (¬ (get_or profile at 0 ≡ 0) × (count < get_or profile at 0))
     → ¬ (IsProfile (map length frame.strategies) profile)
-strategy_out {frame} {profile} {at} a out = λ h.
-    let fits = AllZip-get_or (λ s count. (1 ≤ s) × (s ≤ count)) profile
-    (map length frame.strategies) at 0 0 h (omega (arith, a.player, a.one_number_each)) in
-    let size = (at_count a).1 in
-    omega (arith, fits, size, out)
+strategy_out {frame} {profile} {at} a out = λ h. grind (arith, AllZip-get_or, at_count a)
 
 pub strategy_in : {frame : Frame} {profile : List ℕ} {at place count : ℕ}
     → AtPlayer frame profile at place count → 0 < get_or profile at 0 → get_or profile at 0 ≤ count

@@ -3,7 +3,7 @@ use Rattle.gf_nfg.proofs.Common
 use Common.{get_or_from_slice_get, AllByRecursion, mul-le-mul_left, mul-le-mul_right, IsWithinLimit}
 use Common.{length-replicate, slice_get-get_or, profile_limit, slice_get-map, length-take, no_pay}
 use Common.{length-drop, chosen_rows, AreNumbered, table_with, all_images, all_weaker, length-map}
-use Common.{entries_of, kept_rows, AreShared, slice_get, unwrap_or, profiles, AreFull, HasRows}
+use Common.{entries_of, kept_rows, slice_get, unwrap_or, profiles, AreFull, HasRows}
 use Common.{vec_len, product, rows_of, length, get_or, row_of, IsTable, arith, Entry, Ratio, Table}
 use Common.{mul-suc, all_at, whole, Frame, take, drop, rows, zero, List, Some, refl, suc}
 use Common.{map, ◌≢◌, sym, pos, Vec, ◌≡◌, ◌∷◌, ◌∙◌, ◌<◌, ◌≤◌, ◌+◌, ◌-◌, ◌*◌, ◌/◌, ap, [], ℕ}
