@@ -8,7 +8,7 @@ use Rattle.gf_canon.specs.GameFile.GameFile.{extensive, strategic}
 use Rattle.gf_canon.specs.CanonicalText.{SpellsWithin}
 use Rattle.gf_canon.specs.Judgement.{MeansFile}
 use Rattle.gf_form.specs.Forms.{HasFewPlayers, IsFormOf, IsWithoutForm}
-use Rattle.gf_form.specs.declared.fault.FormFault.{FormFault}
+use Rattle.gf_token.specs.declared.form_fault.FormFault.{FormFault}
 use Rattle.gf_form.specs.declared.forms.Strategies.{Strategies}
 use Rattle.gf_calls.specs.Handed.{IsHandedOut}
 use Rattle.gf_calls.specs.Refused.{IsRefusedAs}

@@ -2,7 +2,7 @@
 use Rattle.std.specs.Prelude.{ℕ, List, ◌++◌, codes, decimal}
 use Rattle.gf_token.specs.Code.{code_of}
 use Rattle.gf_token.specs.declared.fault.Fault.{Fault}
-use Rattle.gf_form.specs.declared.fault.FormFault.{FormFault}
+use Rattle.gf_token.specs.declared.form_fault.FormFault.{FormFault}
 
 -- a refusal's code and place
 abbrev pub place_text : Fault → List ℕ

@@ -4,8 +4,7 @@ ghost use Rattle.std.specs.Prelude.{◌≡◌, ◌≤◌, length};
 ghost use Rattle.gf_explain.specs.FaultLine.{form_text, place_text};
 
 use crate::line::Line;
-use gf_form::FormFault;
-use gf_token::Fault;
+use gf_token::{Fault, FormFault};
 
 /// The code and the place of a refusal.
 pub fn refusal_line(fault: &Fault) -> Line

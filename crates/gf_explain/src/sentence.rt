@@ -8,8 +8,7 @@ use crate::context::{Context, Index};
 use crate::excerpt::front_of;
 use crate::mistake::Refusal;
 use crate::shown::{Part, ShownText, push_line};
-use gf_form::FormFault;
-use gf_token::{What, Why};
+use gf_token::{FormFault, What, Why};
 use itoa::Buffer;
 use std::alloc::AllocError;
 

@@ -16,8 +16,7 @@ use crate::mistake::{Refusal, mistake_of};
 use crate::place::{Place, place_after};
 use crate::sentence::{push_form, push_sentence};
 use crate::shown::{ShownText, shown_name};
-use gf_form::FormFault;
-use gf_token::{Fault, Why};
+use gf_token::{Fault, FormFault, Why};
 use itoa::Buffer;
 use std::alloc::{AllocError, Global};
 

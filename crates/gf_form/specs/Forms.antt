@@ -8,8 +8,8 @@ use Rattle.gf_form.specs.Refusal.{HasReducedValues, HasTooManyProfiles, HasValue
 use Rattle.gf_form.specs.Refusal.{OverflowsAt, ReducedOverflowsAt}
 use Rattle.gf_form.specs.StrategicForm.{IsStrategicForm}
 use Rattle.gf_form.specs.Strategies.{full_profiles}
-use Rattle.gf_form.specs.declared.fault.FormFault.{FormFault}
-use Rattle.gf_form.specs.declared.fault.FormFault.TheVariants.{TooManyProfiles, Overflow, Memory}
+use Rattle.gf_token.specs.declared.form_fault.FormFault.{FormFault}
+use Rattle.gf_token.specs.declared.form_fault.FormFault.TheVariants.{TooManyProfiles, Overflow, Memory}
 use Rattle.gf_form.specs.declared.forms.Strategies.{Strategies}
 use Rattle.gf_form.specs.declared.forms.Strategies.TheVariants.{Pure, Reduced}
 

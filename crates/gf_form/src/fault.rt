@@ -1,4 +1,4 @@
-//! Why a game has no payoffs, or no table.
+//! Why a game has no payoffs at some choices.
 
 use std::alloc::{AllocError, AllocFailed};
 
@@ -31,39 +31,5 @@ impl<T: Drop> From<AllocFailed<T>> for EvalFault {
 
     fn from(_: AllocFailed<T>) -> EvalFault {
         EvalFault::Memory
-    }
-}
-
-/// Why a game has no table.
-#[derive(Clone, Copy, Debug, PartialEq, Eq, Hash)]
-pub enum FormFault {
-    /// There are more profiles than a table may have.
-    TooManyProfiles,
-    /// Some player has no bottom-up value at the profile with this number, from 1; at all profiles
-    /// before it, each player has one.
-    Overflow { profile: u32 },
-    /// Memory was refused.
-    Memory,
-}
-
-impl From<AllocError> for FormFault {
-    ghost use Rattle.std.specs.Prelude.{◌≡◌};
-    ghost use Rattle.gf_form.specs.declared.fault.FormFault.TheVariants.{Memory};
-
-    ghost from_gives = { λ _ fault. fault ≡ Memory };
-
-    fn from(_: AllocError) -> FormFault {
-        FormFault::Memory
-    }
-}
-
-impl<T: Drop> From<AllocFailed<T>> for FormFault {
-    ghost use Rattle.std.specs.Prelude.{◌≡◌};
-    ghost use Rattle.gf_form.specs.declared.fault.FormFault.TheVariants.{Memory};
-
-    ghost from_gives = { λ _ fault. fault ≡ Memory };
-
-    fn from(_: AllocFailed<T>) -> FormFault {
-        FormFault::Memory
     }
 }

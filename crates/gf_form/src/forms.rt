@@ -3,10 +3,10 @@
 ghost use Rattle.std.specs.Prelude.{IfErr, IfOk};
 ghost use Rattle.gf_form.specs.Forms.{HasFewPlayers, IsFormOf, IsWithoutForm};
 
-use crate::fault::FormFault;
 use crate::reduced_form::table_reduced;
 use crate::strategic_form::table;
 use gf_nfg::Table;
+use gf_token::FormFault;
 use gf_tree::Game;
 use std::alloc::Global;
 

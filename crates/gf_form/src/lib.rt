@@ -13,9 +13,10 @@ mod strategic_form;
 mod strategies;
 mod values;
 
-pub use crate::fault::{EvalFault, FormFault};
+pub use crate::fault::EvalFault;
 pub use crate::forms::{Strategies, form_by};
 pub use crate::reduced_form::table_reduced;
 pub use crate::strategic_form::table;
 pub use crate::strategies::valid::are_strategies;
 pub use crate::values::expectation::expected;
+pub use gf_token::FormFault;

@@ -12,7 +12,6 @@ ghost use Rattle.gf_form.specs.Reduced.{IsReducedForm, reduced_labels, reduced_p
 ghost use Rattle.gf_form.specs.Refusal.{HasReducedValues, HasTooManyProfiles, ReducedOverflowsAt};
 ghost use Rattle.gf_form.specs.Strategies.{full_profiles, players_of};
 
-use crate::fault::FormFault;
 use crate::reduced::first::all_reduced;
 use crate::rows::profile::profile_rows;
 use crate::strategic_form::table_with;
@@ -20,6 +19,7 @@ use crate::strategies::counts::Counts;
 use crate::strategies::profile_numbers::profile_numbers;
 use gf_fraction::Fraction;
 use gf_nfg::{Labels, Table};
+use gf_token::FormFault;
 use gf_tree::Game;
 use std::alloc::{AllocError, Global};
 

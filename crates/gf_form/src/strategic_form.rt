@@ -11,12 +11,12 @@ ghost use Rattle.gf_form.specs.Refusal.{HasTooManyProfiles, HasValues, Overflows
 ghost use Rattle.gf_form.specs.StrategicForm.{ArePayoffsAt, IsStrategicForm};
 ghost use Rattle.gf_form.specs.Strategies.{full_profiles};
 
-use crate::fault::FormFault;
 use crate::rows::profile::full_rows;
 use crate::strategies::counts::Counts;
 use crate::strategies::labels::all_labels;
 use gf_fraction::Fraction;
 use gf_nfg::{Labels, Table};
+use gf_token::FormFault;
 use gf_tree::Game;
 use std::alloc::{AllocError, Global};
 

@@ -6,7 +6,7 @@ use Rattle.gf_canon.specs.CanonicalText.{SpellsWithin}
 use Rattle.gf_canon.specs.GameFile.{GameFile}
 use Rattle.gf_canon.specs.Judgement.{IsRefusedWith, MeansFile}
 use Rattle.gf_canon.specs.declared.sameness.SameFault.{SameFault}
-use Rattle.gf_form.specs.declared.fault.FormFault.{FormFault}
+use Rattle.gf_token.specs.declared.form_fault.FormFault.{FormFault}
 use Rattle.gf_form.specs.declared.forms.Strategies.{Strategies}
 use Rattle.gf_explain.specs.FaultLine.{form_text, place_text}
 use Rattle.gf_run.specs.Texts.{IsFileWithoutForm}

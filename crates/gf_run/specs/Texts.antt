@@ -18,7 +18,7 @@ use Rattle.gf_canon.specs.declared.kind.FileKind.{FileKind}
 use Rattle.gf_canon.specs.declared.numbering.pairs.NumberPair.{NumberPair}
 use Rattle.gf_token.specs.declared.names.Names.{Names}
 use Rattle.gf_form.specs.Forms as forms
-use Rattle.gf_form.specs.declared.fault.FormFault.{FormFault}
+use Rattle.gf_token.specs.declared.form_fault.FormFault.{FormFault}
 use Rattle.gf_form.specs.declared.forms.Strategies.{Strategies}
 use Rattle.gf_explain.specs.Shown.{shown_name}
 use Rattle.gf_words.specs.declared.job.LineEnd.{LineEnd}

@@ -1,5 +1,5 @@
 //! The tokens of Gambit game files: labels, tokens with their spans, indices, and the faults that
-//! name a place in a file.
+//! name a place in a file; and why a game has no table.
 //!
 //! The rules are those of the Gambit documentation, "Game representation formats", and, where that
 //! text leaves a choice, those of this project's profile.
@@ -8,6 +8,7 @@
 mod byte;
 mod cursor;
 mod fault;
+mod form_fault;
 mod heading;
 mod index;
 mod label;
@@ -19,6 +20,7 @@ mod write;
 
 pub use cursor::Cursor;
 pub use fault::{Fault, Span, What, Why};
+pub use form_fault::FormFault;
 pub use index::{IndexFault, read_index};
 pub use label::Label;
 pub use names::Names;

@@ -1,6 +1,6 @@
 //! What the words of a command line may ask for.
 
-use gf_canon::Names;
+use gf_token::Names;
 
 /// Where a file is read from.
 #[derive(Drop)]

@@ -18,7 +18,7 @@ use crate::fault::WordsFault;
 use crate::help;
 use crate::job::{Input, Job, LineEnd, Paths, Request};
 use clap::ArgMatches;
-use gf_canon::Names;
+use gf_token::Names;
 use std::alloc::{AllocError, Global};
 
 /// The first text of an argument.

@@ -11,7 +11,6 @@ ghost use Rattle.gf_form.specs.Refusal.{HasValues, IsFirstWithout, OverflowsAt};
 ghost use Rattle.gf_form.specs.StrategicForm.{ArePayoffsAt};
 ghost use Rattle.gf_form.specs.Strategies.{full_profiles};
 
-use crate::fault::FormFault;
 use crate::rows::asked::{Asked, Run};
 use crate::rows::digits::Digits;
 use crate::rows::listed::game_terms;
@@ -20,6 +19,7 @@ use crate::strategies::counts::Counts;
 use crate::strategies::profile_numbers::numbers_below;
 use crate::values::payoffs::Payoffs;
 use gf_fraction::Fraction;
+use gf_token::FormFault;
 use gf_tree::Game;
 use std::alloc::{AllocError, Global};
 

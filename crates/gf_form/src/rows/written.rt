@@ -10,7 +10,7 @@ ghost use Rattle.gf_form.specs.inner.rows.SettledRows.{IsRightlyRefused, SettleB
 ghost use Rattle.gf_form.specs.StrategicForm.{ArePayoffsAt};
 ghost use Rattle.gf_form.specs.Strategies.{full_profiles};
 
-use crate::fault::{EvalFault, FormFault};
+use crate::fault::EvalFault;
 use crate::rows::asked::{Asked, Run};
 use crate::rows::chosen::Chosen;
 use crate::rows::digits::Digit;
@@ -22,6 +22,7 @@ use crate::values::expectation::expected_with;
 use crate::values::nodes::Nodes;
 use crate::values::spare::SpareRows;
 use gf_fraction::{Fraction, SharedDenominator};
+use gf_token::FormFault;
 use gf_tree::Game;
 use std::alloc::{AllocError, Global};
 

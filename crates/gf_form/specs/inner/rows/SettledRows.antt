@@ -21,8 +21,8 @@ use Rattle.gf_form.specs.inner.values.Rows.{ArePaid}
 use Rattle.gf_form.specs.StrategicForm.{ArePayoffsAt}
 use Rattle.gf_form.specs.Strategies.{all_choices, choices_by, full_profiles, strategies_at}
 use Rattle.gf_form.specs.inner.values.Values.{value}
-use Rattle.gf_form.specs.declared.fault.FormFault.{FormFault}
-use Rattle.gf_form.specs.declared.fault.FormFault.TheVariants.{Overflow, TooManyProfiles}
+use Rattle.gf_token.specs.declared.form_fault.FormFault.{FormFault}
+use Rattle.gf_token.specs.declared.form_fault.FormFault.TheVariants.{Overflow, TooManyProfiles}
 use Rattle.gf_form.specs.declared.rows.digits.Digit.{Digit}
 use Rattle.gf_form.specs.declared.rows.terms.Terms.{Terms}
 use Rattle.gf_form.specs.declared.rows.asked.Asked.{Asked}
