@@ -1,7 +1,6 @@
 //! A fault of a run in words, and what the system says about it.
 
 ghost use Rattle.std.specs.Prelude.{◌≡◌, IfOk, OnOk};
-ghost use Rattle.gf_explain.specs.Explained.{IsSaidAfter};
 ghost use Rattle.gf_explain.specs.Place.{EndsLine};
 ghost use Rattle.gf_run.specs.Reports.{IsExplained};
 ghost use Rattle.gf_run.specs.declared.fault.RunFault.{RunFault};
@@ -30,16 +29,6 @@ pub enum Cause {
     Replacing(io::Error),
 }
 
-impl Cause {
-    /// The error, if there is one.
-    pub(crate) fn error(&self) -> Option<io::Error> {
-        match self {
-            Cause::Opening(error) | Cause::Replacing(error) => Some(*error),
-            Cause::Transfer(error) => *error,
-        }
-    }
-}
-
 /// A fault, and what the system says about it.
 #[derive(Clone, Copy)]
 pub struct Failed {
@@ -66,61 +55,46 @@ impl From<AllocError> for Failed {
 
 /// What the system says about a fault of a run over this source and this output.
 pub fn cause_of<S: LastError, W: LastError>(fault: &RunFault, source: &S, output: &W) -> Cause {
-    match fault {
-        RunFault::Write => Cause::Transfer(output.last_error()),
-        _ => cause_of_source(fault, source),
-    }
-}
-
-/// The same of a run that has no output.
-pub fn cause_of_source<S: LastError>(fault: &RunFault, source: &S) -> Cause {
     Cause::Transfer(match fault {
-        RunFault::Read(_) => source.last_error(),
-        _ => None,
+        RunFault::Write => output.last_error(),
+        _ => source.last_error(),
     })
 }
 
-/// Says what failed, and what the system says about that, if it says anything.
+/// Says what failed, and what the system says about that, if it says anything. Where a folder stands in
+/// the place of a file, a hint follows.
 fn push_failure(
     alloc: Global,
     text: &mut ShownText,
-    words: &str,
+    fault: &RunFault,
+    cause: &Cause,
     name: &str,
-    error: &Option<io::Error>,
 ) -> Result<(), AllocError>
     ensures { OnOk result (EndsLine text.new) }
 {
-    let (words, name) = (Part::Shown(words.as_bytes()), Part::Shown(name.as_bytes()));
+    let (words, named, error) = match (fault, cause) {
+        (RunFault::Memory, _) => ("out of memory", "", None),
+        (_, Cause::Opening(error)) => ("cannot open ", name, Some(*error)),
+        (_, Cause::Replacing(error)) => ("cannot replace ", name, Some(*error)),
+        (RunFault::Write, Cause::Transfer(error)) => ("cannot write the output", "", *error),
+        (_, Cause::Transfer(error)) => ("cannot read ", name, *error),
+    };
+    let (words, named) = (Part::Shown(words.as_bytes()), Part::Shown(named.as_bytes()));
     let Some(error) = error else {
-        return push_line(text, &[words, name]);
+        return push_line(text, &[words, named]);
     };
     let reason = error.to_string(alloc)?;
     let (colon, reason) = (Part::Shown(b": "), Part::Shown(reason.as_bytes()));
-    push_line(text, &[words, name, colon, reason])?;
+    push_line(text, &[words, named, colon, reason])?;
     if error.kind() == io::ErrorKind::IsADirectory {
         push_line(text, &[Part::Shown(FOLDER_HINT)])?;
     }
     Ok(())
 }
 
-/// A line, and what `push_failure` says after it.
-fn failure_text(
-    alloc: Global,
-    line: &[u8],
-    words: &str,
-    name: &str,
-    error: &Option<io::Error>,
-) -> Result<Vec<u8>, AllocError>
-    ensures { IfOk result (λ text. IsSaidAfter line.now text.items) }
-{
-    let mut text = ShownText::new(alloc);
-    push_failure(alloc, &mut text, words, name, error)?;
-    said_after(alloc, line, &text)
-}
-
 /// A fault in words: for a refusal, where it is, the line of the fault without its input, what is
 /// wrong, the line of the file with marks under the place, and a hint; for any other fault, its line
-/// and a sentence. Where a folder stands in the place of a file, it has a hint too.
+/// and a sentence.
 pub fn explanation(
     alloc: Global,
     fault: &RunFault,
@@ -130,21 +104,14 @@ pub fn explanation(
 ) -> Result<Vec<u8>, AllocError>
     ensures { IfOk result (λ text. IsExplained fault.now name.now bytes.now text.items) }
 {
-    let line = short_line_of(fault);
-    let line = line.as_slice();
     match fault {
         RunFault::Refused { fault, .. } => refusal_explanation(alloc, fault, name, bytes),
         RunFault::Form(fault) => form_explanation(alloc, fault),
-        RunFault::Read(_) | RunFault::Write => {
+        RunFault::Read(_) | RunFault::Write | RunFault::Memory => {
             let called = shown_name(alloc, name)?;
-            let (words, called) = match (fault, cause) {
-                (_, Cause::Replacing(_)) => ("cannot replace ", called.as_str()),
-                (RunFault::Write, _) => ("cannot write the output", ""),
-                (_, Cause::Opening(_)) => ("cannot open ", called.as_str()),
-                (_, Cause::Transfer(_)) => ("cannot read ", called.as_str()),
-            };
-            failure_text(alloc, line, words, called, &cause.error())
+            let mut text = ShownText::new(alloc);
+            push_failure(alloc, &mut text, fault, cause, called.as_str())?;
+            said_after(alloc, short_line_of(fault).as_slice(), &text)
         }
-        RunFault::Memory => failure_text(alloc, line, "out of memory", "", &None),
     }
 }

@@ -120,10 +120,7 @@ pub fn is_of_second(fault: &RunFault) -> bool
     ensures { result ≡ is_of_second fault.now }
 {
     match fault {
-        RunFault::Refused { which, .. } | RunFault::Read(which) => match which {
-            Which::Second => true,
-            Which::Only | Which::First => false,
-        },
+        RunFault::Refused { which, .. } | RunFault::Read(which) => *which == Which::Second,
         RunFault::Write | RunFault::Form(_) | RunFault::Memory => false,
     }
 }

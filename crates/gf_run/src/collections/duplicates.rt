@@ -10,7 +10,7 @@ use crate::collections::file::{CollectionFile, name_of, open_file};
 use crate::collections::groups::Groups;
 use crate::collections::line::hash_of;
 use crate::collections::progress::Progress;
-use crate::explain::{Cause, cause_of_source};
+use crate::explain::Cause;
 use crate::fault::{RunFault, Which, answer_status};
 use crate::jobs::ending::{nothing_kept, tell, tell_of, tell_of_file, tell_unopened_of};
 use crate::jobs::session::Session;
@@ -61,7 +61,7 @@ impl<I: Inputs, P: Progress, W: Sink + LastError, E: Sink> Session<'_, '_, '_, '
                 Err(AllocError) => Err(tell(&RunFault::Memory, self.errors)),
             },
             Err(fault) => {
-                let cause = cause_of_source(&fault, &source);
+                let cause = Cause::Transfer(source.last_error());
                 Ok(tell_of(alloc, &fault, &cause, name, source.bytes(), self.errors))
             }
         }

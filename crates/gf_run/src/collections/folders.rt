@@ -85,39 +85,24 @@ pub enum Repeats {
     PassedOver,
 }
 
-/// Adds the name in a line, unless it is blank. A carriage return may stand before its line feed.
-fn push_line(mut line: Vec<u8>, names: &mut Vec<Vec<u8>>) -> Result<(), AllocError> {
-    if line.as_slice().ends_with(b"\r") {
-        line.truncate(line.len() - 1);
-    }
-    if !line.is_empty() {
-        names.push(line)?;
-    }
-    Ok(())
-}
-
-/// Adds the name that came before such an end, unless it is a blank line.
-fn push_name(name: Vec<u8>, end: LineEnd, names: &mut Vec<Vec<u8>>) -> Result<(), AllocError> {
-    match end {
-        LineEnd::LineFeed => push_line(name, names),
-        LineEnd::Null => Ok(names.push(name)?),
-    }
-}
-
-/// Adds the names that a reader gives, each of which has this end. Blank lines are passed over.
-/// Names that came before an error stay.
+/// Adds the names that a reader gives, each of which has this end. Before a line feed a carriage return
+/// may stand, and blank lines are passed over. Names that came before an error stay.
 pub(crate) fn push_names<R: Read + Drop>(
     alloc: Global,
     input: R,
     end: LineEnd,
     names: &mut Vec<Vec<u8>>,
 ) -> io::Result<()> {
-    let last = match end {
-        LineEnd::LineFeed => b'\n',
-        LineEnd::Null => b'\0',
-    };
+    let is_line = matches!(end, LineEnd::LineFeed);
+    let last = if is_line { b'\n' } else { b'\0' };
     for name in BufReader::new(alloc, input)?.split(alloc, last) {
-        push_name(name?, end, names)?;
+        let mut name = name?;
+        if is_line && name.as_slice().ends_with(b"\r") {
+            name.truncate(name.len() - 1);
+        }
+        if !(is_line && name.is_empty()) {
+            names.push(name)?;
+        }
     }
     Ok(())
 }

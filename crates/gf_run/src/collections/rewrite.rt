@@ -6,12 +6,13 @@ ghost use Rattle.gf_run.specs.Performs.{RewritesNext, unreplaced_fault, without_
 
 use crate::collections::file::{CollectionFile, name_of, open_file};
 use crate::collections::progress::Progress;
-use crate::explain::{Cause, Failed, cause_of_source};
+use crate::explain::{Cause, Failed};
 use crate::fault::{RunFault, Which};
 use crate::jobs::ending::{tell_of, tell_unopened_of};
 use crate::jobs::session::Session;
 use crate::opening::inputs::{Inputs, Unreplaced};
 use crate::streams::kept::Kept;
+use crate::streams::last_error::LastError;
 use crate::streams::sink::Sink;
 use crate::streams::source::load;
 use crate::texts::game::{are_canonical, canon};
@@ -78,7 +79,7 @@ fn rewrite<I: Inputs>(
     match load(alloc, source, Which::Only) {
         Ok(bytes) => put_text(alloc, inputs, file, bytes.as_slice(), names),
         Err(fault) => {
-            let cause = cause_of_source(&fault, source);
+            let cause = Cause::Transfer(source.last_error());
             Err(Failed { fault, cause })
         }
     }

@@ -40,10 +40,10 @@ fn run_one<R: Source, W: Sink>(
 {
     match task {
         OneTask::Canon(names) => run_canon_by(alloc, source, names, output),
-        OneTask::Check => match run_check(alloc, source, output) {
-            Ok(_) => Ok(()),
-            Err(fault) => Err(fault),
-        },
+        OneTask::Check => {
+            run_check(alloc, source, output)?;
+            Ok(())
+        }
         OneTask::Table(strategies) => run_form(alloc, source, strategies, output),
     }
 }

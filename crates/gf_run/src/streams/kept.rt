@@ -33,10 +33,7 @@ impl<S> Kept<S> {
     pub fn bytes(&self) -> Option<&[u8]>
         ensures { option_map (λ bytes. bytes.now) result ≡ bytes_kept self.now }
     {
-        match &self.bytes {
-            Some(bytes) => Some(bytes.as_slice()),
-            None => None,
-        }
+        self.bytes.as_deref()
     }
 }
 

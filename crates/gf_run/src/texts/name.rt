@@ -52,6 +52,7 @@ fn push_byte(text: &mut Vec<u8>, byte: u8) -> Result<(), AllocError>
     }
 }
 
+#[tactic(auto, using(std::proofs::lemmas::List::flat_map_more))]
 fn push_escaped(text: &mut Vec<u8>, name: &[u8]) -> Result<(), AllocError>
     ensures { OnOk result (text.new.items ≡ text.old.items ++ flat_map byte_text name.now) }
 {
