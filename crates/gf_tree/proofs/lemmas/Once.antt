@@ -1,11 +1,8 @@
 -- A test, an option and a result have one value.
-use Rattle.gf_tree.proofs.Common.{◌≡◌, Bool, true, false, Option, Some, None, Result, Ok, Err}
+use Rattle.gf_tree.proofs.Common.{◌≡◌, Bool, true, false, Option, Some, Result, Ok, Err}
 
 pub true_or_false : (b : Bool) → b ≡ true → b ≡ false → ⊥
 true_or_false b h k = cc
-
-pub none_or_some : {A : Type 0} (o : Option A) (x : A) → o ≡ None → o ≡ Some x → ⊥
-none_or_some o x h k = cc
 
 pub one_some : {A : Type 0} (o : Option A) (x y : A) → o ≡ Some x → o ≡ Some y → x ≡ y
 one_some o x y h k = cc

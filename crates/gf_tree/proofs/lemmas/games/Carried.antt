@@ -1,6 +1,6 @@
 -- Finite maps whose keys are carried to others.
 use Rattle.gf_tree.proofs.Common.{◌≡◌, Bool, true, false, List, [], ◌∷◌, map, refl, sym, ap, subst}
-use Rattle.gf_tree.proofs.Common.{◌∙◌, inl, inr, arith, both_ways, ◌⊎◌, Described, description_at}
+use Rattle.gf_tree.proofs.Common.{◌∙◌, inl, inr, arith, both_ways, Described, description_at}
 use Rattle.gf_tree.proofs.Common.{first_uses, cases_Bool, find}
 use Rattle.std.specs.Prelude.{unwrap_or}
 use Rattle.gf_tree.proofs.lemmas.games.Members.{map_same, map_twice}
@@ -83,14 +83,11 @@ pub undone : {K : Type 0} (same : K → K → Bool) → IsEquality same
 undone same tells f [] k apart i = absurd i
 undone {K} same tells f (u ∷ us) k apart i = elim (cases_Bool (same (f u) (f k))) [
   | inl e ↦ here e
-  | inr e ↦ there e (undone same tells f us k (λ a b j l. apart a b (inr j) (inr l)) (rest e i))
+  | inr e ↦ there e (undone same tells f us k (λ a b j l. apart a b (inr j) (inr l)) (grind (arith, both_ways)))
 ]
   where
     here : same (f u) (f k) ≡ true → undo same f (u ∷ us) (f k) ≡ k
     here e = rw e (apart u k (inl refl) i ((tells (f u) (f k)).0 e))
-
-    rest : same (f u) (f k) ≡ false → (u ≡ k) ⊎ Has us k → Has us k
-    rest e h = grind (arith, both_ways)
 
     there : same (f u) (f k) ≡ false → undo same f us (f k) ≡ k → undo same f (u ∷ us) (f k) ≡ k
     there e h = rw e h

@@ -1,14 +1,14 @@
 -- The game of a consistent file tree: there is one, and it is a game.
 use Rattle.gf_tree.proofs.Common
 use Common.{HasChildrenAsDescribed, AllByRecursion, InformationSet, AreConsistent, used_outcomes, ℕ}
-use Common.{outcome_uses, IsConsistent, MatchOption, Decides-eqb, cons_option, flatten_all, flatten}
+use Common.{outcome_uses, IsConsistent, MatchOption, Decides-eqb, flatten_all, flatten}
 use Common.{HasChildren, option_map, map-append, filter_map, first_uses, keys_alone, map_trees, ◌≡◌}
 use Common.{IsOutcome, Describes, used_sets, map_tree, same_set, IsGameOf, FileNode, FileTree, ◌++◌}
 use Common.{set_uses, length, Option, branch, Listed, SetKey, IsGame, set_at, nat_eq, subst, arith}
 use Common.{Trees, count, IsSet, List, Some, None, Bool, refl, Tree, none, more, Game, suc, ◌∷◌, []}
 use Common.{map, sym, ◌∙◌, inl, inr, Use, ap}
 use Rattle.gf_tree.proofs.lemmas.games.Uses.{Has, IsEquality, has_map, mapped_from, each}
-use Rattle.gf_tree.proofs.lemmas.games.Uses.{all_of_each, has_first, has_later, described}
+use Rattle.gf_tree.proofs.lemmas.games.Uses.{all_of_each, has_later, described}
 use Rattle.gf_tree.proofs.lemmas.games.FirstUses.{is_used, was_used, describe_all, found}
 use Rattle.gf_tree.proofs.lemmas.games.TreesOnce.{one_game, same_set_equality}
 
@@ -35,21 +35,16 @@ mutual
 
 -- ---- the keys of the game are those of the uses
 
-keys_of_option : {K D : Type 0} (o : Option (Use K D)) (us : List (Use K D))
-    → cons_option (option_map (λ u. u.key) o) (map (λ u. u.key) us)
-    ≡ map (λ u. u.key) (cons_option o us)
-keys_of_option o us = grind arith
-
 set_keys_of : (es : List (Listed FileNode))
     → filter_map (λ e. e.node.set) (map (map_entry keys_alone) es) ≡ map (λ u. u.key) (set_uses es)
 set_keys_of [] = refl
-set_keys_of (e ∷ es) = cc (set_keys_of es, keys_of_option e.node.set (set_uses es))
+set_keys_of (e ∷ es) = grind (arith, set_keys_of es)
 
 outcome_keys_of : (es : List (Listed FileNode))
     → filter_map (λ e. e.node.outcome) (map (map_entry keys_alone) es)
     ≡ map (λ u. u.key) (outcome_uses es)
 outcome_keys_of [] = refl
-outcome_keys_of (e ∷ es) = cc (outcome_keys_of es, keys_of_option e.node.outcome (outcome_uses es))
+outcome_keys_of (e ∷ es) = grind (arith, outcome_keys_of es)
 
 pub used_sets_are : (t : Tree FileNode)
     → used_sets (map_tree keys_alone t) ≡ map (λ u. u.key) (set_uses (flatten t))
@@ -135,7 +130,7 @@ children_of f g of name (Some u) outcome n among h =
 pub use_among : (es : List (Listed FileNode)) (e : Listed FileNode) (u : Use SetKey InformationSet)
     → Has es e → e.node.set ≡ Some u → Has (set_uses es) u
 use_among [] e u h q = absurd h
-use_among (x ∷ xs) e u (inl p) q = has_first x.node.set (set_uses xs) u (ap (λ y. y.node.set) p ∙ q)
+use_among (x ∷ xs) e u (inl p) q = (grind arith)
 use_among (x ∷ xs) e u (inr m) q = has_later x.node.set (set_uses xs) u (use_among xs e u m q)
 
 pub is_game : (f : FileTree) (g : Game) → IsConsistent f → IsGameOf f g → IsGame g

@@ -56,15 +56,11 @@ filter_distinct : {K : Type 0} (test : K → Bool) (ks : List K) → AreDistinct
 filter_distinct test [] h = tt
 filter_distinct test (k ∷ ks) h = grind (arith, of_filter, filter_distinct test ks h.1)
 
-not_itself : {K : Type 0} (same : K → K → Bool)
-    → IsEquality same → (key : K) → not (same key key) ≡ true → ⊥
-not_itself same equality key e = grind arith
-
 pub first_uses_distinct : {K : Type 0} (same : K → K → Bool) → IsEquality same → (ks : List K)
     → AreDistinct (first_uses same ks)
 first_uses_distinct same equality [] = tt
 first_uses_distinct same equality (key ∷ ks) =
-    grind (arith, not_itself, of_filter, filter_distinct, first_uses_distinct same equality ks)
+    grind (arith, of_filter, filter_distinct, first_uses_distinct same equality ks)
 
 -- ---- descriptions
 

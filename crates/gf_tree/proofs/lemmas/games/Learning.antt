@@ -5,7 +5,6 @@ use Rattle.gf_tree.proofs.Common.{append_assoc, append-nil, inl, inr, arith, ◌
 use Rattle.gf_tree.proofs.Common.{Described, description_at, first_uses, Use, Learns, Describes}
 use Rattle.gf_tree.proofs.Common.{AreConsistent, map-append, same_Some}
 use Rattle.gf_tree.specs.Consistent.{IsDescribed, IsFirstUse}
-use Rattle.gf_tree.proofs.lemmas.Once.{none_or_some}
 use Rattle.gf_tree.proofs.lemmas.games.FirstUses.{found, is_used}
 use Rattle.gf_tree.proofs.lemmas.games.Members.{all_more, in_left, in_right}
 use Rattle.gf_tree.proofs.lemmas.games.Uses.{Has, IsEquality, all_of_each, contains, described_once}
@@ -88,7 +87,7 @@ module _ {K D : Type 0} (same : K → K → Bool) (equality : IsEquality same) w
     not_used key none h =
         let f = found same equality known key
         (subst (λ ks. Has ks key) (sym tell.1) (is_used same equality (keys_of us) key h)) in
-        none_or_some (description_at same known key) f.description none f.is_at
+        (cc)
 
     is_first : (u : Use K D) → description_at same known u.key ≡ None → IsFirstUse us u
     is_first u none = all_of_each (λ v. ¬ (v.key ≡ u.key)) us (λ v m e. not_used u.key none
@@ -143,8 +142,7 @@ module _ {K D : Type 0} (same : K → K → Bool) (equality : IsEquality same) w
       where
         by : (key : K) (c d : D) → Has us (told key c) → u ≡ told key d
             → (u.description ≡ None) ⊎ (u.description ≡ Some k.description) → c ≡ d
-        by key c d h e (inl none) = absurd (none_or_some u.description d none
-            (ap (λ (v : Use K D). v.description) e))
+        by key c d h e (inl none) = absurd (cc)
         by key c d h e (inr some) =
             let is : told u.key k.description ≡ told key d =
             (λ i. record { key = u.key; description = sym some i }) ∙ e in

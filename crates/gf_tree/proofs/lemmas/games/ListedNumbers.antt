@@ -4,7 +4,7 @@ use Common.{false_from_ne_true, outcome_numbers, AllByRecursion, InformationSet,
 use Common.{IsRenumbering, used_outcomes, number_listed, Decides-eqb, player_keys, slice_get, false}
 use Common.{both_ways, Described, used_sets, AreListed, same_set, length, get_or, SetKey, set_of, ℕ}
 use Common.{HasSet, IsGame, nat_eq, subst, arith, IsSet, Bool, List, Some}
-use Common.{Game, ◌≡◌, suc, ◌<◌, ◌≤◌, ◌∷◌, inl, inr, sym, ap}
+use Common.{Game, ◌≡◌, suc, ◌<◌, ◌≤◌, ◌∷◌, inl, inr, ap}
 use Rattle.gf_tree.specs.ListedNumbers.{AreNumbers}
 use Rattle.gf_tree.proofs.lemmas.games.Carried.{in_keys}
 use Rattle.gf_tree.proofs.lemmas.games.PlayerSets.{sets_by_first_use}
@@ -28,20 +28,17 @@ positive (m ∷ ns) n h (inr i) = positive ns n h.2 i
 -- ---- the number at the place of a key
 
 module _ {K : Type 0} (same : K → K → Bool) (tells : IsEquality same) where
-  later : (k : K) (ks : List K) (key : K) → Has (k ∷ ks) key → same k key ≡ false → Has ks key
-  later k ks key h q = grind (arith, both_ways)
-
   pub has_number : (ks : List K) (ns : List ℕ) (key : K) → length ns ≡ length ks → Has ks key
       → Has ns (number_listed same ks ns key)
   has_number (k ∷ ks) (n ∷ ns) key e i =
-      grind (arith, later, has_number ks ns key (omega (arith, e)))
+      grind (arith, both_ways, has_number ks ns key (omega (arith, e)))
   has_number ks ns key e i = grind arith
 
   pub numbers_apart : (ks : List K) (ns : List ℕ) (a b : K) → length ns ≡ length ks
       → AreDistinct ns → Has ks a → Has ks b
       → number_listed same ks ns a ≡ number_listed same ks ns b → a ≡ b
   numbers_apart (k ∷ ks) (n ∷ ns) a b e d i j h =
-      grind (arith, has_number, later, numbers_apart ks ns a b (omega (arith, e)) d.1)
+      grind (arith, has_number, both_ways, numbers_apart ks ns a b (omega (arith, e)) d.1)
   numbers_apart ks ns a b e d i j h = grind arith
 
   -- it stands at the key's place
@@ -49,8 +46,7 @@ module _ {K : Type 0} (same : K → K → Bool) (tells : IsEquality same) where
       → AreDistinct ks → slice_get ks place ≡ Some key
       → slice_get ns place ≡ Some (number_listed same ks ns key)
   number_there (k ∷ ks) (n ∷ ns) (suc place) key e d h =
-      let other : same k key ≡ false = false_from_ne_true (same k key)
-      (λ t. d.0 (subst (Has ks) (sym ((tells k key).0 t)) (has_at ks place key h))) in
+      let other : same k key ≡ false = grind (arith, false_from_ne_true, Has, has_at) in
       rw other (number_there ks ns place key (omega (arith, e)) d.1 h)
   number_there ks ns place key e d h = grind arith
 
@@ -76,9 +72,6 @@ module _ (g : Game) (game : IsGame g) (sets : List (List ℕ)) (outcomes : List 
       g.sets s.0 game.each_set s.1 in
       omega (arith, is.player, ap (λ (k : SetKey). k.player) s.2)
 
-  own_numbers : (key : SetKey) → Has (used_sets g.tree) key → AreNumbers (get_or sets key.player [])
-  own_numbers key i = grind (arith, all_at, some_player)
-
   pub as_long : (key : SetKey) → Has (used_sets g.tree) key
       → length (get_or sets key.player []) ≡ length (player_keys g key.player)
   as_long key i = listed.each_set key.player (some_player key i)
@@ -95,7 +88,7 @@ module _ (g : Game) (game : IsGame g) (sets : List (List ℕ)) (outcomes : List 
   listed_is_renumbering = record {
     positive_sets = λ player number h.
         let i = used player number h in
-        positive (get_or sets player []) _ (own_numbers (set_of player number) i)
+        positive (get_or sets player []) _ (grind (arith, all_at, some_player))
         (has_number same_set same_set_equality (player_keys g player) (get_or sets player [])
         (set_of player number)
         (as_long (set_of player number) i) (own_key (set_of player number) i));
@@ -110,7 +103,7 @@ module _ (g : Game) (game : IsGame g) (sets : List (List ℕ)) (outcomes : List 
         (numbers_apart same_set same_set_equality (player_keys g player) (get_or sets player [])
         (set_of player a) (set_of player b)
         (as_long (set_of player a) i)
-        (distinct (get_or sets player []) (own_numbers (set_of player a) i))
+        (distinct (get_or sets player []) (grind (arith, all_at, some_player)))
         (own_key (set_of player a) i) (own_key (set_of player b) j) e);
     outcomes_apart = λ a b h k e.
         numbers_apart nat_eq Decides-eqb (outcome_numbers g) outcomes a b listed.each_outcome

@@ -1,7 +1,7 @@
 -- Finite maps by their look-ups.
-use Rattle.gf_tree.proofs.Common.{subst, ◌≡◌, Bool, false, cond, List, [], ◌∷◌, map, Option, Some}
+use Rattle.gf_tree.proofs.Common.{subst, ◌≡◌, Bool, false, List, [], ◌∷◌, map, Some}
 use Rattle.gf_tree.proofs.Common.{refl, sym, ◌∙◌, inl, inr, arith, false_from_ne_true, Described}
-use Rattle.gf_tree.proofs.Common.{description_at, option_map}
+use Rattle.gf_tree.proofs.Common.{description_at}
 use Rattle.gf_tree.proofs.lemmas.games.FirstUses.{AreDistinct}
 use Rattle.gf_tree.proofs.lemmas.games.Uses.{Has, IsEquality, has_map}
 
@@ -12,20 +12,13 @@ keys es = map (λ e. e.key) es
 abbrev pub at_images : {K L D : Type 0} → (K → L) → List (Described K D) → List (Described L D)
 at_images f es = map (λ e. record { key = f e.key; description = e.description }) es
 
-either : {K L D : Type 0} (b : Bool) (k : K) (l : L) (d : D)
-    (x : Option (Described K D)) (y : Option (Described L D))
-    → option_map (λ e. e.description) y ≡ option_map (λ e. e.description) x
-    → option_map (λ e. e.description) (cond b (Some (record { key = l; description = d })) y)
-    ≡ option_map (λ e. e.description) (cond b (Some (record { key = k; description = d })) x)
-either b k l d x y h = grind arith
-
 pub lookup_image : {K L D : Type 0} (same : K → K → Bool)
     (same' : L → L → Bool) (f : K → L) (es : List (Described K D)) (key : K)
     → ((k : K) → Has (keys es) k → same' (f k) (f key) ≡ same k key)
     → description_at same' (at_images f es) (f key) ≡ description_at same es key
 lookup_image same same' f [] key h = refl
 lookup_image same same' f (e ∷ es) key h =
-    grind (arith, lookup_image same same' f es key (λ k i. h k (inr i)), either)
+    grind (arith, lookup_image same same' f es key (λ k i. h k (inr i)))
 
 -- if each key occurs once, a map is determined by its keys and by what it gives at each of them
 pub same_map : {K D : Type 0} (same : K → K → Bool)
@@ -54,7 +47,7 @@ same_map {K} {D} same tells (e ∷ es) (f ∷ fs) q d h =
     there g gs k p = rw (false_from_ne_true (same g.key k) (λ t. p ((tells g.key k).0 t))) refl
 
     some : Some e.description ≡ Some f.description
-    some = sym (here e es e.key refl) ∙ h e.key (inl refl) ∙ here f fs e.key (sym first)
+    some = sym (here e es e.key refl) ∙ h e.key (inl refl) ∙ here f fs e.key (sym (cc))
 
     described : e.description ≡ f.description
     described = let both : Some e.description ≡ Some f.description = some in cc

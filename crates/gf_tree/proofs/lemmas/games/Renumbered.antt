@@ -67,8 +67,7 @@ renumbered_is_game g r game h = record {
         let used = entry_used same_set (used_sets g.tree) g.sets k.0 game.one_entry_each_set k.1 in
         rw (← k.2) (record {
           player = was.player;
-          number = h.positive_sets k.0.key.player
-              k.0.key.number (contains (used_sets g.tree) k.0.key used);
+          number = grind (arith, contains);
           some_action = was.some_action;
           actions = was.actions;
         })
@@ -86,8 +85,7 @@ renumbered_is_game g r game h = record {
         let used =
         entry_used nat_eq (used_outcomes g.tree) g.outcomes k.0 game.one_entry_each_outcome k.1 in
         rw (← k.2) (record {
-          number_from_one = h.positive_outcomes k.0.key (contains (used_outcomes
-              g.tree) k.0.key used);
+          number_from_one = grind (arith, contains);
           one_payoff_each = was.one_payoff_each;
         })
 

@@ -149,14 +149,11 @@ images_told : {X Y : Type 0} (f g : X → Y) (xs : List X) → map f xs ≡ map 
 images_told f g [] e x i = absurd i
 images_told {X} {Y} f g (y ∷ xs) e x i = go i (images_told f g xs rest x)
   where
-    first : f y ≡ g y
-    first = cc
-
     rest : map f xs ≡ map g xs
     rest = cc
 
     go : Has (y ∷ xs) x → (Has xs x → f x ≡ g x) → f x ≡ g x
-    go h h2 = grind (arith, first)
+    go h h2 = grind arith
 
 pub only_sets : (r s : Renumbering) (g h : Game) → Carries r g h → Carries s g h
     → (player number : ℕ) → HasSet g player number → r.set player number ≡ s.set player number

@@ -1,10 +1,10 @@
 -- What a file means is a game that a file can hold.
 use Rattle.gf_tree.proofs.Common
-use Common.{IsOutcomeDescription, IsSpellableOutcome, IsSpellableAction, IsPayoffInBraces, FileNode}
+use Common.{IsOutcomeDescription, IsSpellableOutcome, IsSpellableAction, FileNode}
 use Common.{IsInformationSet, AllByRecursion, InformationSet, IsSpellableSet, IsDescription, length}
-use Common.{outcome_uses, MatchOption, cons_option, IsSpellable, SpellsMover, IsFraction, Describes}
+use Common.{outcome_uses, MatchOption, cons_option, IsSpellable, Describes}
 use Common.{keys_alone, SpellsGame, IsSpelled, FileTree, set_uses, IsAction, IsResult, Sentence, []}
-use Common.{IsGameOf, Closing, flatten, Outcome, IsLabel, Option, Listed, Action, SetKey, IsGame, ℕ}
+use Common.{IsGameOf, Closing, flatten, Outcome, IsLabel, Option, Listed, SetKey, IsGame, ℕ}
 use Common.{IsStep, IsNode, subst, arith, Token, List, ◌++◌, Some, None, Text, Each, Game, ap}
 use Common.{◌≡◌, ◌^◌, ◌<◌, ◌∷◌, map, sym, ◌∙◌, Use}
 use Rattle.gf_fraction.proofs.Offered.{all_parts, all_mapped}
@@ -24,14 +24,6 @@ each_spelled P Q f (x ∷ xs) tokens h all =
 
 -- ---- descriptions
 
-action_spelled : (player : ℕ) (tokens : List Token) (a : Action)
-    → IsAction player tokens a → AllSpelled tokens → IsSpellableAction a
-action_spelled player tokens a h all = grind arith
-
-mover_bound : (letter : List ℕ) (tokens : List Token) (player : ℕ)
-    → SpellsMover letter tokens player → player < 2 ^ 32
-mover_bound letter tokens player h = grind arith
-
 -- a set's description, or an outcome's, if there is one
 abbrev SetSpelled : Use SetKey InformationSet → Type 0
 SetSpelled u = MatchOption u.description (Unit {0})
@@ -48,14 +40,14 @@ set_spelled key None tokens p n h all = tt
 set_spelled key (Some d) tokens p n h all =
     grind (
       arith,
-      each_spelled (IsAction key.player) IsSpellableAction (action_spelled key.player)
+      each_spelled (IsAction key.player) IsSpellableAction (grind arith)
           d.actions h.0 h.2 (all_parts IsSpelled h.0 (Closing ∷ []) (subst AllSpelled h.1 all).1.1).0,
     )
 
 step_spelled : (letter : List ℕ) (tokens : List Token) (o : Option (Use SetKey InformationSet))
     → IsStep letter tokens o → AllSpelled tokens → MatchOption o (Unit {0}) SetSpelled
 step_spelled letter tokens None h all = tt
-step_spelled letter tokens (Some u) h all = grind (arith, all_parts, set_spelled, mover_bound)
+step_spelled letter tokens (Some u) h all = grind (arith, all_parts, set_spelled)
 
 outcome_spelled : (players key : ℕ) (o : Option Outcome) (tokens : List Token)
     → key < 2 ^ 32 → IsDescription (IsOutcomeDescription players) tokens o → AllSpelled tokens
@@ -67,8 +59,7 @@ outcome_spelled players key (Some d) tokens n h all =
     record {
       number = n;
       name = k.0;
-      payoffs = each_spelled IsPayoffInBraces IsFraction
-          (λ ts r one spelled. one.3.fraction) d.payoffs h.0 h.2 payoffs.0;
+      payoffs = grind (arith, each_spelled);
     }
 
 result_spelled : (players : ℕ) (tokens : List Token) (o : Option (Use ℕ Outcome))
@@ -102,7 +93,7 @@ all_of_options P o xs h k = grind arith
 sets_spelled : (es : List (Listed FileNode)) → AllByRecursion NodeSpelled (map (λ e. e.node) es)
     → AllByRecursion SetSpelled (set_uses es)
 sets_spelled [] h = tt
-sets_spelled (e ∷ es) h = grind (arith, all_of_options, set_uses, sets_spelled es h.1)
+sets_spelled (e ∷ es) h = grind (arith, set_uses, sets_spelled es h.1)
 
 outcomes_spelled : (es : List (Listed FileNode)) → AllByRecursion NodeSpelled (map (λ e. e.node) es)
     → AllByRecursion OutcomeSpelled (outcome_uses es)

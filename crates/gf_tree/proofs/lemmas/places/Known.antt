@@ -1,7 +1,9 @@
 -- What is known at a place is what the nodes before it describe.
+use Rattle.gf_tree.proofs.lemmas.runs.Ends.{by_node}
+use Rattle.gf_tree.proofs.lemmas.runs.Ends.{none_due}
 use Rattle.gf_tree.proofs.Common.{append_assoc, IsNode}
 use Rattle.gf_tree.proofs.Common.{filter_map, Described, FileNode, Position, index_is, same_set, []}
-use Rattle.gf_tree.proofs.Common.{Content, flatten, Learns, Listed, Option, braced, length}
+use Rattle.gf_tree.proofs.Common.{Content, flatten, Learns, Listed, Option, length}
 use Rattle.gf_tree.proofs.Common.{nat_eq, Token, arith, codes, subst, Bare, Bool, Each, List, None}
 use Rattle.gf_tree.proofs.Common.{Text, refl, zero, ◌++◌, Use, map, suc, sym, ◌∙◌, ◌∷◌, ◌≡◌, ap, ℕ}
 use Rattle.gf_token.proofs.Offered.{walks, run_after}
@@ -12,7 +14,7 @@ use Rattle.gf_tree.proofs.lemmas.games.SentencesOnce.{says_once}
 use Rattle.gf_tree.proofs.lemmas.games.TreesOnce.{uses_of_nodes}
 use Rattle.gf_tree.proofs.lemmas.places.Rows.{follows}
 use Rattle.gf_tree.proofs.lemmas.places.Steps.{position_of}
-use Rattle.gf_tree.proofs.lemmas.runs.Ends.{after_outcome, after_players, zero_is_index, Completed}
+use Rattle.gf_tree.proofs.lemmas.runs.Ends.{after_players, zero_is_index, Completed}
 use Rattle.gf_tree.proofs.lemmas.runs.Ends.{nodes_end, terminals}
 use Rattle.gf_tree.proofs.lemmas.runs.Games.{file_found}
 use Rattle.gf_tree.specs.inner.Machine.{at_end, next}
@@ -66,11 +68,7 @@ says_more {title} {note} {players} said n tokens h = record {
   letter = h.letter;
   comment = h.comment;
   nodes = h.nodes ++ terminals n;
-  parts = cc (
-    h.parts,
-    append_assoc (braced (map Text players)) (h.comment ++ h.nodes) (terminals n),
-    append_assoc h.comment h.nodes (terminals n),
-  );
+  parts = grind (arith, append_assoc, terminals);
   is_letter = h.is_letter;
   is_comment = h.is_comment;
   are_nodes =
@@ -81,7 +79,7 @@ says_more {title} {note} {players} said n tokens h = record {
 -- ---- what the nodes before them describe
 
 completed : (q : Position) (c : Content) → IsBeforeNode (position_of q) → Completed q c
-completed q c h = grind (arith, after_players, nodes_end, after_outcome)
+completed q c h = grind (arith, after_players, nodes_end, none_due, by_node)
 
 learned : {K D : Type 0} (same : K → K → Bool) (use_in : FileNode → Option (Use K D))
     (es : List (Listed FileNode)) (said : List FileNode) (n : ℕ) (end known : List (Described K D))

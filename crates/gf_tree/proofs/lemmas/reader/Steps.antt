@@ -6,8 +6,8 @@ use Common.{KnownSetName, outcome_with, StandsBefore, with_outcome, Decides-eqb,
 use Common.{with_action, option_map, length-map, actions_of, set_number, begun_with, ℕ}
 use Common.{content_of, slice_get, KnownSets, Described, Remaining, NewAction, SetNumber, set_known}
 use Common.{position, set_with, same_set, label_of, count_of, AreAmong, past_set, Outcome}
-use Common.{Position, then_run, with_set, Content, nothing, Closing, length, Option, Action, SetKey}
-use Common.{set_of, Format, Lexeme, nat_eq, Result, Reader, placed, Memory, lexeme, Answer, answer}
+use Common.{Position, then_run, with_set, Content, Closing, length, Option, Action, SetKey}
+use Common.{set_of, Lexeme, nat_eq, Result, Reader, placed, Memory, lexeme, Answer}
 use Common.{arith, subst, Ratio, Fault, Begun, begun, State, heard, Fails, Grows, Bool, true}
 use Common.{List, ◌++◌, Some, None, refl, ◌==◌, Game, Span, Kept, Bare, ◌≡◌, ◌+◌, ◌<◌, ◌≤◌}
 use Common.{suc, ◌∷◌, map, sym, ◌∙◌, run, Why, Err, [], ap, Ok, at}
@@ -96,11 +96,6 @@ placed_one_more s o (m ∷ ms) n h set outcome = (h.0, placed_one_more s o ms n 
 
 -- ---- the set of a node
 
-pub new_begun : (known : List (Described SetKey InformationSet))
-    (s : Described SetKey InformationSet) (node : List ℕ)
-    → begun_with (known ++ s ∷ []) node (length known + 1) ≡ begun node s.key s.description
-new_begun known s node = grind (arith, at_next, get_next)
-
 -- the first place of a key has it
 pub key_at : {K D : Type 0} (same : K → K → Bool) → IsEquality same → (key : K)
     (es : List (Described K D)) (place : ℕ) (s : Described K D)
@@ -147,8 +142,7 @@ module _ {E : Type 0} (r : Reader) (sets : KnownSets) (key : SetKey) (name : Lis
       begun_with sets.known node (place + 1) ≡ begun node key (set_with name r.sets.pending))
   kept_begun node (Err e) h is = tt
   kept_begun node (Ok place) h is =
-      cc (new_begun r.sets.known (record { key = key; description = set_with name r.sets.pending })
-      node)
+      grind (arith, at_next, get_next)
 
 -- ---- an outcome that is kept
 
@@ -206,14 +200,6 @@ set_again c node player n a b t all rest after is number goes =
 
 -- ---- the number of a player
 
-player_in : (c : Content) (node : List ℕ) (n : ℕ) → n ≤ length c.players
-    → player_number c node (Some n) ≡ Ok (at (SetNumber node n) c)
-player_in c node n within = grind (arith, nat_tests)
-
-player_out : (c : Content) (node : List ℕ) (n : ℕ) → length c.players < n
-    → player_number c node (Some n) ≡ Err UnknownPlayer
-player_out c node n above = grind (arith, nat_tests)
-
 -- what follows from it
 module _ (c : Content) (node : List ℕ) (n a b : ℕ) (t : List ℕ) (all rest : Remaining)
     (is : all ≡ record { input = rest.input; ahead = lexeme a b (Bare t) ∷ rest.ahead })
@@ -234,13 +220,13 @@ module _ (c : Content) (node : List ℕ) (n a b : ℕ) (t : List ℕ) (all rest 
 
   pub player_again : n ≤ length c.players
       → heard (PlayerNumber node) c all ≡ heard (SetNumber node n) c rest
-  player_again within = after (Ok (at (SetNumber node n) c)) (player_in c node n within)
+  player_again within = after (Ok (at (SetNumber node n) c)) (grind (arith, nat_tests))
 
   pub player_unknown : (f : Fault)
       → f ≡ record { span = record { start = a; end = b }; why = UnknownPlayer }
       → length c.players < n → Fails f (heard (PlayerNumber node) c all)
   player_unknown f same above = of_file
-      (ap (λ (x : Answer). x.machine) (after (Err UnknownPlayer) (player_out c node n above))
+      (ap (λ (x : Answer). x.machine) (after (Err UnknownPlayer) (grind (arith, nat_tests)))
       ∙ ap (λ (g : Fault). Err g) (sym same))
 
 -- ---- a new set is whole
@@ -294,11 +280,6 @@ found_outcome known number place at =
 pub ruleset outcomes_known = (not_described, found_outcome)
 
 -- ---- the whole file
-
--- a reader before the first token stands for the machine before it
-pub heard_begun : (r : Reader) (bytes : List ℕ) → r.tokens.input ≡ bytes → content_of r ≡ nothing
-    → heard Format nothing (record { input = bytes; ahead = r.tokens.ahead }) ≡ answer Format r
-heard_begun r bytes input none = cc
 
 -- if the file is refused
 pub refused_only : (f : Fault) (g : Game) (result : Result Game Fault) → result ≡ Err f

@@ -1,11 +1,11 @@
 -- What a reader has told of the nodes of a file, and that the machine goes on after it.
 use Rattle.gf_tree.proofs.Common
-use Common.{InformationSet, take-append-le, length-append, append_assoc, entries_with, told_outcome}
+use Common.{InformationSet, take-append-le, length-append, append_assoc, entries_with}
 use Common.{at_position, child_count, after_nodes, option_map, append-nil, entry_with, ByFirstUse}
 use Common.{begun_with, content_of, Described, with_node, told_from, told_node, AreAmong, Position}
-use Common.{told_set, Outcome, IsAmong, NodeDue, HasRead, Heading, length, Listed, Result, Lexeme}
+use Common.{Outcome, IsAmong, NodeDue, HasRead, Heading, length, Result, Lexeme}
 use Common.{SetKey, Reader, Answer, answer, Fault, heard, Grows, arith, subst, Told, List, ◌++◌, ap}
-use Common.{refl, Node, Kept, Bool, Goes, ◌≡◌, ◌≤◌, ◌+◌, ◌-◌, ◌∷◌, max, map, Err, sym, ◌∙◌, [], Ok}
+use Common.{refl, Kept, Goes, ◌≡◌, ◌≤◌, ◌+◌, ◌-◌, ◌∷◌, max, map, Err, sym, ◌∙◌, [], Ok}
 use Common.{ℕ}
 use Rattle.std.specs.Prelude.{OnOk}
 use Rattle.gf_tree.specs.inner.ReaderState.{GoesTelling, HasTold, IsNoLonger, ReadsTokens, Tells}
@@ -19,20 +19,11 @@ use Rattle.gf_tree.proofs.lemmas.runs.Earlier.{heard_more}
 
 module _ (sets more_sets : List (Described SetKey InformationSet))
     (outcomes more_outcomes : List (Described ℕ Outcome)) where
-  set_stays : (p : ℕ) (described : Bool) → p ≤ length sets
-      → told_set ByFirstUse (sets ++ more_sets) p described ≡ told_set ByFirstUse sets p described
-  set_stays p described h = grind (arith, at_before, take-append-le)
-
-  outcome_stays : (p : ℕ) (described : Bool) → p ≤ length outcomes
-      → told_outcome ByFirstUse (outcomes ++ more_outcomes) p described
-      ≡ told_outcome ByFirstUse outcomes p described
-  outcome_stays p described h = grind (arith, at_before)
-
   node_stays : (used_sets used_outcomes : ℕ) (n : Kept) → IsAmong (length sets) (length outcomes) n
       → told_node ByFirstUse (sets ++ more_sets) (outcomes ++ more_outcomes) used_sets
       used_outcomes n
       ≡ told_node ByFirstUse sets outcomes used_sets used_outcomes n
-  node_stays used_sets used_outcomes n h = grind (arith, set_stays, outcome_stays)
+  node_stays used_sets used_outcomes n h = grind (arith, at_before, take-append-le)
 
   told_stays : (used_sets used_outcomes : ℕ) (ns : List Kept)
       → AreAmong (length sets) (length outcomes) ns
@@ -73,12 +64,6 @@ entries_more : (sets : List (Described SetKey InformationSet))
     ≡ entries_with sets outcomes ns ++ entry_with sets outcomes n ∷ []
 entries_more sets outcomes [] n = refl
 entries_more sets outcomes (m ∷ ms) n = grind (arith, entries_more sets outcomes ms n)
-
--- ---- answers after nodes
-
-past_both : (ns ms : List (Listed Node)) (a : Answer)
-    → after_nodes ns (after_nodes ms a) ≡ after_nodes (ns ++ ms) a
-past_both ns ms a = grind (arith, append_assoc)
 
 -- ---- lists that grow
 
@@ -160,22 +145,12 @@ module _ {T : Type 0} (holds : T → T → Heading → List Told → Type 0) (un
         (placed_among_more (length old.sets.known) (length old.outcomes.known)
         (length new.sets.known) (length new.outcomes.known) nodes (grows_length h.sets)
         (grows_length h.outcomes) k.placed) h.placed.set h.placed.outcome;
-    told = subst (holds untold to heading) (sym whole)
+    told = subst (holds untold to heading) (sym (grind (arith, told_more)))
         (h.told untold heading (told_from ByFirstUse new.sets.known new.outcomes.known 0 0 nodes)
-        (subst (holds untold from heading) (sym same) k.told));
+        (subst (holds untold from heading) (sym (grind (arith, told_stays))) k.told));
     told_sets = cc (h.told_sets, k.told_sets, sets_more h.node 0 nodes);
     told_outcomes = cc (h.told_outcomes, k.told_outcomes, outcomes_more h.node 0 nodes);
   }
-    where
-      same : told_from ByFirstUse new.sets.known new.outcomes.known 0 0 nodes
-          ≡ told_from ByFirstUse old.sets.known old.outcomes.known 0 0 nodes
-      same = grind (arith, told_stays)
-
-      whole : told_from ByFirstUse new.sets.known new.outcomes.known 0 0 (nodes ++ h.node ∷ [])
-          ≡ told_from ByFirstUse new.sets.known new.outcomes.known 0 0 nodes
-          ++ told_node ByFirstUse new.sets.known new.outcomes.known old.told_sets old.told_outcomes
-          h.node ∷ []
-      whole = grind (arith, told_more)
 
   pub read_one_more : {start : Answer} {old new : Reader} {from to : T} {set : ℕ}
       → HasRead (λ t told. holds untold t heading told) start NodeDue old from
@@ -183,21 +158,9 @@ module _ {T : Type 0} (holds : T → T → Heading → List Told → Type 0) (un
       → HasRead (λ t told. holds untold t heading told) start NodeDue (with_children new set) to
   read_one_more {start} {old} {new} {from} {to} {set} k h = record {
     nodes = k.nodes ++ h.node ∷ [];
-    goes = cc (
-      k.goes,
-      entries,
-      h.goes,
-      past_both (entries_with new.sets.known new.outcomes.known
-          k.nodes) (entry_with new.sets.known new.outcomes.known h.node ∷ [])
-          (answer NodeDue (with_children new set)),
-      entries_more new.sets.known new.outcomes.known k.nodes h.node,
-    );
+    goes = grind (arith, k.goes, outcomes_grow, placed_among_more, grows_length, sets_grow, h.goes, append_assoc, entries_more new.sets.known new.outcomes.known k.nodes h.node);
     has_told = told_one_more k.has_told h;
   }
-    where
-      entries : entries_with old.sets.known old.outcomes.known k.nodes
-          ≡ entries_with new.sets.known new.outcomes.known k.nodes
-      entries = grind (arith, outcomes_grow, placed_among_more, grows_length, sets_grow)
 
 -- ---- nodes that are kept
 

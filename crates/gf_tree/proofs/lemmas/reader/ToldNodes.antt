@@ -3,7 +3,7 @@
 use Rattle.gf_tree.proofs.Common
 use Common.{first_use_numbers, renumbered_node, InformationSet, slice_get-map, used_outcomes, subst}
 use Common.{entries_with, told_outcome, Decides-eqb, Renumbering, option_map, length-map, slice_get}
-use Common.{map-append, first_uses, renumbered, file_nodes, ByFirstUse, used_sets, Described, arith}
+use Common.{map-append, renumbered, file_nodes, ByFirstUse, used_sets, Described, arith}
 use Common.{told_from, same_set, known_of, AreAmong, told_set, Outcome, flatten, sets_of, game_in}
 use Common.{Content, nothing, no_node, length, filter, eq-eqb, Lexeme, Spells, SetKey, nat_eq, List}
 use Common.{IsGame, Format, OfFile, ◌++◌, take, Some, refl, ◌==◌, Game, Kept, Bool, true, ◌≡◌, suc}
@@ -46,8 +46,7 @@ module _ (g : Game) (game : IsGame g) where
       let his : Described SetKey InformationSet → Bool = λ x. x.key.player == s.key.player in
       let key_of : Described SetKey InformationSet → SetKey = λ x. x.key in
       let passes : his s ≡ true = eq-eqb s.key.player s.key.player refl in
-      let in_order : first_uses same_set (sets_of s.key.player (used_sets g.tree))
-      ≡ map key_of (filter his r.0) ++ s.key ∷ map key_of (filter his r.1) =
+      let in_order =
       sym (sets_by_first_use g s.key.player game) ∙ ap (λ xs. map key_of (filter his xs)) r.2
       ∙ ap (map key_of) (filter_last his r.0 s r.1 passes)
       ∙ map-append key_of (filter his r.0) (s ∷ filter his r.1) in

@@ -1,6 +1,6 @@
 -- Runs over the actions of a new information set in braces.
 use Rattle.gf_tree.proofs.Common.{AllByRecursion, InformationSet, OutcomeNumber, append_assoc, zero}
-use Rattle.gf_tree.proofs.Common.{new_set_ends, with_action, append-nil, IsFraction, AreActions, []}
+use Rattle.gf_tree.proofs.Common.{with_action, append-nil, IsFraction, []}
 use Rattle.gf_tree.proofs.Common.{run_tokens, NewAction, share_of, IsAction, then_run, Ok}
 use Rattle.gf_tree.proofs.Common.{with_set, Closing, Content, AddUpTo, length, Option, Result, List}
 use Rattle.gf_tree.proofs.Common.{AddsTo, Action, SetKey, set_of, shared, subst, arith, Token, ◌++◌}
@@ -13,10 +13,6 @@ use Rattle.gf_tree.proofs.lemmas.runs.Shares.{share_found, share_again, sum_high
 abbrev pub AreOthers : ℕ → Ratio → List Action → Type 0
 AreOthers zero sum actions = AddUpTo sum actions (whole (pos 1))
 AreOthers (suc player) sum actions = AllByRecursion (λ a. a.probability ≡ None) actions
-
-pub are_others : (player : ℕ) (actions : List Action) → AreActions player actions
-    → AreOthers player (whole (pos 0)) actions
-are_others player actions h = grind arith
 
 abbrev pub with_actions : InformationSet → List Action → InformationSet
 with_actions set actions = record set { actions = set.actions ++ actions }
@@ -48,13 +44,6 @@ new_end : (ts : List Token) (name : List ℕ) (player n : ℕ)
     → Reads (OutcomeNumber (begun name (set_of player n) set))
     (with_set c (set_of player n) set) ts r → NewActions (Closing ∷ ts) name player n set sum c r
 new_end ts name player n set sum c r some are e = grind (arith, no_actions)
-
-end_by_actions : (ts : List Token) (name : List ℕ) (player n : ℕ)
-    (set : InformationSet) (actions : List Action) (sum : Ratio) (c r : Content)
-    → set.actions ≡ actions
-    → then_run (new_set_ends c name (set_of player n) set actions sum) (run_on ts) ≡ Ok r
-    → NewActions (Closing ∷ ts) name player n set sum c r
-end_by_actions ts name player n set actions sum c r is e = grind (arith, new_end, ratio_is)
 
 new_more : (first ts : List Token) (name label : List ℕ) (player n : ℕ) (set : InformationSet)
     (p : Option Ratio) (sum next : Ratio) (c r : Content)
@@ -103,7 +92,7 @@ new_found (Text label ∷ Bare b ∷ ts) name zero n set sum c r fraction e =
     (b, s.probability, refl, is.number, refl)
     (λ actions k. (s.probability, s.sum, refl, is.not_below, is.adds, k))
     (new_found ts name 0 n (with_action set label (Some s.probability)) s.sum c r is.adds.1 h.2)
-new_found ts name player n set sum c r fraction e = grind (arith, end_by_actions)
+new_found ts name player n set sum c r fraction e = grind (arith, new_end, ratio_is)
 
 -- ---- each new set is read
 
@@ -128,13 +117,6 @@ high (a ∷ actions) inner sum fraction each h =
     sum_high sum p s.next each.3.3.fraction.den_above_zero fraction.den_above_zero s.not_below
     s.adds (high actions each.1 s.next s.adds.1 each.4 s.others)
 
-close_by_actions : (actions : List Action) (player : ℕ) (rest : List Token)
-    (name : List ℕ) (n : ℕ) (set : InformationSet) (sum : Ratio) (c : Content)
-    → 0 < length actions → AreOthers player sum []
-    → then_run (new_set_ends c name (set_of player n) set actions sum) (run_on rest) ≡ run_tokens
-    (OutcomeNumber (begun name (set_of player n) set)) (with_set c (set_of player n) set) rest
-close_by_actions actions player rest name n set sum c some h = grind arith
-
 pub new_again : (actions : List Action) (player : ℕ) (inner rest : List Token)
     (name : List ℕ) (n : ℕ) (set : InformationSet) (sum : Ratio) (c : Content) → IsFraction sum
     → Each (IsAction player) inner actions → AreOthers player sum actions
@@ -143,7 +125,7 @@ pub new_again : (actions : List Action) (player : ℕ) (inner rest : List Token)
     ≡ run_tokens (OutcomeNumber (begun name (set_of player n) (with_actions set actions)))
     (with_set c (set_of player n) (with_actions set actions)) rest
 new_again [] player inner rest name n set sum c fraction each h some =
-    grind (arith, no_actions, close_by_actions, begun)
+    grind (arith, no_actions, begun)
 new_again (a ∷ actions) zero inner rest name n set sum c fraction each h some =
     let b = each.3.0 in
     let p = each.3.1 in

@@ -8,7 +8,7 @@ use Common.{player_number, BeforePlayers, NewSetOpening, OutcomeNumber, new_set_
 use Common.{PersonalName, TerminalName, PlayerNumber, KnownSetName, with_action, KnownAction, arith}
 use Common.{KnownPayoff, number_text, IsFraction, past_label, set_number, ChanceName, NewSetName, ℕ}
 use Common.{with_node, InPlayers, SetNumber, NewAction, NewPayoff, set_known, same_set, then_run}
-use Common.{Position, past_set, set_ends, Opening, Closing, Outcome, Content, Version, NodeDue, suc}
+use Common.{Position, past_set, Opening, Closing, Outcome, Content, Version, NodeDue, suc}
 use Common.{length, Option, Action, SetKey, set_of, shared, Format, Letter, nat_le, le-leb, codes}
 use Common.{Ratio, whole, Token, Begun, State, begun, Title, zero, true, List, Some, None, refl, []}
 use Common.{IsSpelled, ints, Text, Bare, paid, step, ◌<◌, ◌∷◌, ◌∙◌, pos, Ok, ap, at, MatchOption}
@@ -54,17 +54,15 @@ pub record Completed (q : Position) (c : Content) : Type 0 where
   pub sets : end.sets ≡ c.sets
   pub outcomes : end.outcomes ≡ c.outcomes
 
-none_due : (q : Position) (c : Content) → finish q c ≡ Ok c → Completed q c
+pub none_due : (q : Position) (c : Content) → finish q c ≡ Ok c → Completed q c
 none_due q c e = record { count = 0; end = c; reads = e; sets = refl; outcomes = refl }
 
-by_node : (q : Position) (c : Content) → step q c (Bare (codes "t")) ≡ Ok (at TerminalName c)
+pub by_node : (q : Position) (c : Content) → step q c (Bare (codes "t")) ≡ Ok (at TerminalName c)
     → Completed NodeDue (with_node c terminal None) → Completed q c
 by_node q c e h = record {
   count = suc h.count;
   end = h.end;
-  reads = ap (λ o. then_run o (run_on (Text [] ∷ Bare (codes "0") ∷ terminals h.count))) e
-      ∙ ap (λ o. then_run (outcome_number c terminal o) (run_on (terminals h.count)))
-      zero_is_index ∙ h.reads;
+  reads = grind (arith, run_on, zero_is_index);
   sets = h.sets;
   outcomes = h.outcomes;
 }
@@ -73,10 +71,6 @@ pub nodes_end : (due : ℕ) (c : Content) → c.due ≡ due → Completed NodeDu
 nodes_end zero c is = none_due NodeDue c (rw is refl)
 nodes_end (suc due) c is = by_node NodeDue c (rw is refl)
     (nodes_end due (with_node c terminal None) (omega (arith, is)))
-
-pub after_outcome : (due : ℕ) (outcome : Outcome) (c : Content) → c.due ≡ due
-    → Completed (KnownOutcomeName outcome) c
-after_outcome due outcome c is = grind (arith, none_due, by_node, nodes_end)
 
 pub after_players : (c : Content) → Completed AfterPlayers c
 after_players c = by_node AfterPlayers c refl (nodes_end _ _ refl)
@@ -140,11 +134,6 @@ module _ (Given : Type 0) where
 
   -- ---- actions
 
-  closed : (name : List ℕ) (player n : ℕ) (set : InformationSet) (sum : Ratio) (c : Content)
-      → sum ≡ whole (pos 1)
-      → set_ends c name player n set sum ≡ Ok (set_known c name (set_of player n) set)
-  closed name player n set sum c h = grind arith
-
   -- after an action, if the probabilities add up to one
   actions_end : (name : List ℕ) (key : SetKey) (set : InformationSet)
       (actions : List Action) (sum : Ratio) (c : Content) → set.actions ≡ actions → 0 < length actions
@@ -153,12 +142,8 @@ module _ (Given : Type 0) where
   actions_end name key set (a ∷ actions) sum c is some one =
       let after = set_known c name key set in
       by (NewAction name key set sum) c Closing (λ g. tt) after
-      (cc (is, closed name key.player key.number set sum c one))
+      (grind (arith, is))
       (outcome_ends (begun name key set) after.content)
-
-  one_more : (set : InformationSet) (label : List ℕ) (p : Option Ratio)
-      → 0 < length (with_action set label p).actions
-  one_more set label p = grind (arith, length-append)
 
   probability_ends : (name : List ℕ) (key : SetKey)
       (set : InformationSet) (sum : Ratio) (label : List ℕ) (c : Content)
@@ -171,7 +156,7 @@ module _ (Given : Type 0) where
       by_number (NewProbability name key set sum label) c rest.rest rest.fraction
       (at (NewAction name key full (whole (pos 1))) c) (ap (shared c name key set label) read)
       (actions_end name key full full.actions (whole (pos 1)) c refl
-      (one_more set label (Some rest.rest)) refl)
+      (grind (arith, length-append)) refl)
 
   -- a player's actions have no probabilities
   player_end : (name : List ℕ) (player n : ℕ) (set : InformationSet)
@@ -192,7 +177,7 @@ module _ (Given : Type 0) where
       let more = with_action set [] None in
       by (NewAction name (set_of (suc player) n) set sum) c (Text []) (λ g. refl)
       (at (NewAction name (set_of (suc player) n) more sum) c) refl
-      (player_end name player n more more.actions sum c refl (one_more set [] None))
+      (player_end name player n more more.actions sum c refl (grind (arith, length-append)))
 
   new_set_end : (name : List ℕ) (key : SetKey) (label : List ℕ) (c : Content)
       → Ends (NewSetOpening name key label) c
@@ -318,7 +303,7 @@ module _ (Given : Type 0) where
       (at (NewOutcomeOpening b n []) c) refl (new_outcome_ends b n [] c)
   ends (NewOutcomeOpening b n label) c h = new_outcome_ends b n label c
   ends (NewPayoff may b n outcome left) c h = new_payoff_ends may left b n outcome c
-  ends (KnownOutcomeName outcome) c h = completes (after_outcome c.due outcome c refl)
+  ends (KnownOutcomeName outcome) c h = completes (grind (arith, none_due, by_node, nodes_end))
   ends (KnownOutcomeOpening ps) c h = by (KnownOutcomeOpening ps) c Opening (λ g. tt)
       (at (KnownPayoff false ps) c) refl (known_payoff_ends false ps c h.0)
   ends (KnownPayoff may ps) c h = known_payoff_ends may ps c h.0

@@ -1,11 +1,11 @@
 -- Runs over all nodes of a file, in prefix order.
 use Rattle.gf_tree.proofs.Common
 use Common.{AllByRecursion, InformationSet, description_at, length-append, append_assoc, option_map}
-use Common.{outcome_uses, cons_option, HasChildren, node_or_end, append-nil, keys_alone, after_node}
+use Common.{outcome_uses, cons_option, HasChildren, append-nil, keys_alone, after_node}
 use Common.{run_tokens, Described, same_set, FileNode, set_uses, then_run, Outcome, Content, length}
 use Common.{NodeDue, game_in, Option, nat_eq, Listed, Learns, IsNode, SetKey, subst, arith}
-use Common.{Token, Fills, zero, Bool, cond, List, ◌++◌, Some, refl, Bare, Each, Game, ℕ}
-use Common.{Node, ◌==◌, ◌≡◌, suc, ◌+◌, ◌-◌, ◌<◌, ◌∷◌, map, Err, sym, ◌∙◌, Use, [], Ok}
+use Common.{Token, Fills, zero, List, ◌++◌, Some, refl, Bare, Each, Game, ℕ}
+use Common.{Node, ◌≡◌, suc, ◌+◌, ◌-◌, ◌<◌, ◌∷◌, map, sym, ◌∙◌, Use, [], Ok}
 use Rattle.gf_tree.proofs.lemmas.games.Consistent.{map_entry}
 use Rattle.gf_tree.proofs.lemmas.games.TreesOnce.{same_set_equality}
 use Rattle.gf_tree.proofs.lemmas.runs.Tokens.{Reads, run_on, ok_read, ok_is}
@@ -41,11 +41,6 @@ pub record NodesRead (ts : List Token) (c r : Content) : Type 0 where
   pub are_sets : AreSets (length c.players) r.sets
   pub are_outcomes : AreOutcomes (length c.players) r.outcomes
 
-no_nodes : (c r : Content) (none : Bool) (due : ℕ) → c.due ≡ due → due == 0 ≡ none
-    → AreSets (length c.players) c.sets → AreOutcomes (length c.players) c.outcomes
-    → cond none (Ok c) (Err (node_or_end due)) ≡ ok_read r → NodesRead [] c r
-no_nodes c r none due is test sets outcomes e = grind (arith, ok_is, append-nil)
-
 -- the uses of the first node, and the others
 pub more_uses : {K D : Type 0} (o : Option (Use K D)) (us : List (Use K D))
     → uses_of o ++ us ≡ cons_option o us
@@ -78,11 +73,7 @@ nodes_more ts due c r is h k =
       learns_outcomes = rw (← more_uses h.node.outcome (outcome_uses k.entries)) (learns_on nat_eq
           (uses_of h.node.outcome) (outcome_uses k.entries) c.outcomes h.outcomes r.outcomes
           h.learns_outcomes k.learns_outcomes);
-      children = (
-        children_kept h.sets r.sets (set_key h.node) h.children
-            (kept same_set (set_uses k.entries) h.sets r.sets k.learns_sets) h.has_children,
-        k.children,
-      );
+      children = grind (arith, children_kept, set_key, kept);
       are_sets = k.are_sets;
       are_outcomes = k.are_outcomes;
     }
@@ -107,19 +98,13 @@ nodes_by (suc size) (Bare b ∷ ts) c r within sets outcomes e =
     nodes_more (Bare b ∷ ts) h.1.0 c r h.1.1 n
     (nodes_by size n.rest (past_node c n.node n.children n.sets n.outcomes) r
     (omega (arith, within, less)) n.are_sets n.are_outcomes n.goes_on)
-nodes_by size ts c r within sets outcomes e = grind (arith, no_nodes)
+nodes_by size ts c r within sets outcomes e = grind (arith, ok_is, append-nil)
 
 pub nodes_found : (ts : List Token) (c r : Content) → AreSets (length c.players) c.sets
     → AreOutcomes (length c.players) c.outcomes → Reads NodeDue c ts r → NodesRead ts c r
 nodes_found ts c r sets outcomes e = nodes_by (suc (length ts)) ts c r (omega arith) sets outcomes e
 
 -- ---- all nodes are read
-
--- after a use its key is known
-known_after : (known mid : MapOf) (u : Use SetKey InformationSet)
-    → Learns same_set known (u ∷ []) mid
-    → (d : InformationSet) × (description_at same_set mid u.key ≡ Some d)
-known_after known mid u learns = grind (arith, one_use, at_new, same_set_equality)
 
 -- a node has its children by what is known after it
 children_then : (known mid end : MapOf) (o : Option (Use SetKey InformationSet)) (children : ℕ)
@@ -128,18 +113,13 @@ children_then : (known mid end : MapOf) (o : Option (Use SetKey InformationSet))
     → description_at same_set end key ≡ Some d)
     → HasChildrenBy end (option_map (λ u. u.key) o) children
     → HasChildrenBy mid (option_map (λ u. u.key) o) children
-children_then known mid end o children learns same h = grind (arith, known_after)
+children_then known mid end o children learns same h = grind (arith, one_use, at_new, same_set_equality)
 
 -- all that is read after this content
 abbrev pub past_nodes : Content → List (Listed FileNode) → MapOf → List (Described ℕ Outcome)
     → Content
 past_nodes c es sets outcomes =
     record c { nodes = c.nodes ++ alone es; due = 0; sets = sets; outcomes = outcomes }
-
-end_again : (c : Content) (sets : MapOf) (outcomes : List (Described ℕ Outcome))
-    → c.due ≡ 0 → sets ≡ c.sets → outcomes ≡ c.outcomes
-    → run_tokens NodeDue c [] ≡ ok_read (past_nodes c [] sets outcomes)
-end_again c sets outcomes is same_sets same_outcomes = grind (arith, append-nil, ok_read)
 
 pub nodes_again : (es : List (Listed FileNode)) (ts : List Token) (c : Content)
     (g : Game) (sets : MapOf) (outcomes : List (Described ℕ Outcome)) → g.sets ≡ sets
@@ -149,7 +129,7 @@ pub nodes_again : (es : List (Listed FileNode)) (ts : List Token) (c : Content)
     → AllByRecursion (HasChildren g) (alone es) → AreSets (length c.players) sets
     → run_tokens NodeDue c ts ≡ ok_read (past_nodes c es sets outcomes)
 nodes_again [] ts c g sets outcomes of each fills learns_sets learns_outcomes children are =
-    grind (arith, end_again)
+    grind (arith, append-nil, ok_read)
 nodes_again (e ∷ es) ts c g sets outcomes of each fills learns_sets learns_outcomes children are =
     let left = some_due c.due refl fills in
     let us = subst (λ us. Learns same_set c.sets us sets) (sym (more_uses e.node.set (set_uses es)))

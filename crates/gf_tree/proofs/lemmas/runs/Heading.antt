@@ -2,7 +2,7 @@
 use Rattle.gf_tree.proofs.Common.{append_assoc, AfterPlayers, with_player, pointwise}
 use Rattle.gf_tree.proofs.Common.{append-nil, run_tokens, InPlayers, Opening, Closing, Content, ◌≡◌}
 use Rattle.gf_tree.proofs.Common.{nothing, Version, nat_eq, braced, Format, Letter, ℕ}
-use Rattle.gf_tree.proofs.Common.{arith, codes, Token, Title, Bool, true, List, ◌++◌, refl, Text}
+use Rattle.gf_tree.proofs.Common.{arith, codes, Token, Title, List, ◌++◌, refl, Text}
 use Rattle.gf_tree.proofs.Common.{Bare, ◌||◌, ◌∷◌, map, sym, ◌∙◌, ◌⊎◌, [], ap, at, inl, inr}
 use Rattle.gf_tree.proofs.lemmas.runs.Tokens.{Reads, guard_ok, refused, same_bytes}
 
@@ -22,18 +22,13 @@ only_version (Bare b ∷ rest) c r e =
     (rest, ap (λ (x : List ℕ). Bare x ∷ rest) (same_bytes b (codes "2") h.0), h.1)
 only_version _ c r e = absurd (refused _ r tt e)
 
-pub either_letter : (b : List ℕ) (is_r is_d : Bool) → pointwise nat_eq b (codes "R") ≡ is_r
-    → pointwise nat_eq b (codes "D") ≡ is_d → (is_r || is_d) ≡ true
-    → (b ≡ codes "R") ⊎ (b ≡ codes "D")
-either_letter b is_r is_d er ed h = grind (arith, same_bytes)
-
 only_letter : (ts : List Token) (c r : Content) → Reads Letter c ts r
     → (letter : List ℕ) × (rest : List Token) × (ts ≡ Bare letter ∷ rest)
     × ((letter ≡ codes "R") ⊎ (letter ≡ codes "D")) × Reads Title c rest r
 only_letter (Bare b ∷ rest) c r e =
     let h = guard_ok (pointwise nat_eq b (codes "R") || pointwise nat_eq b (codes "D")) (at Title c)
     _ rest r e in
-    (b, rest, refl, either_letter b _ _ refl refl h.0, h.1)
+    (b, rest, refl, (grind (arith, same_bytes)), h.1)
 only_letter _ c r e = absurd (refused _ r tt e)
 
 only_title : (ts : List Token) (c r : Content) → Reads Title c ts r

@@ -1,13 +1,14 @@
 -- What holds wherever the machine goes on: numbers that it knows are fractions, a sum of
 -- probabilities is at most one, and if a player moves, there is such a player. The labels of
 -- actions that it knows can be spelled, if the tokens can.
+use Rattle.gf_tree.proofs.Common.{whole_fraction}
 use Rattle.gf_tree.proofs.Common
 use Common.{KnownOutcomeOpening, KnownOutcomeName, KnownProbability, KnownSetOpening, player_number}
 use Common.{AllByRecursion, InformationSet, NewProbability, description_at, outcome_number, Closing}
-use Common.{KnownSetName, PersonalName, PlayerNumber, new_set_ends, past_outcome, Decides-eqb, Bare}
+use Common.{KnownSetName, PersonalName, PlayerNumber, past_outcome, Decides-eqb, Bare}
 use Common.{KnownAction, KnownPayoff, MatchOption, NumberFault, node_letter, IsFraction, after_node}
-use Common.{set_number, Described, NewAction, NewPayoff, new_label, number_is, Position, past_set}
-use Common.{same_set, set_ends, share_of, Content, Outcome, Action, Option, Result, SetKey, length}
+use Common.{set_number, Described, NewAction, NewPayoff, number_is, Position, past_set}
+use Common.{same_set, share_of, Content, Outcome, Action, Option, Result, SetKey, length}
 use Common.{nat_eq, shared, Begun, Ratio, Share, State, Token, arith, List, None, Some, Text, paid}
 use Common.{IsLabel, IsSpelled, refl, step, ◌++◌, Err, Why, suc, ◌<◌, ◌∷◌, ◌≡◌, Ok, [], ℕ}
 use Rattle.gf_fraction.specs.Offered.{number_of}
@@ -15,7 +16,7 @@ use Rattle.gf_tree.proofs.lemmas.games.TreesOnce.{same_set_equality}
 use Rattle.gf_tree.proofs.lemmas.games.Members.{all_more}
 use Rattle.gf_tree.proofs.lemmas.runs.Learned.{found_has, one}
 use Rattle.gf_tree.proofs.lemmas.runs.Shares.{share_found}
-use Rattle.gf_tree.proofs.lemmas.runs.Remainders.{zero_share, IsShare, sum_low}
+use Rattle.gf_tree.proofs.lemmas.runs.Remainders.{IsShare, sum_low}
 
 -- if it is given that the tokens can be spelled
 module _ (Given : Type 0) where
@@ -64,7 +65,7 @@ module _ (Given : Type 0) where
     letter_keeps b = grind arith
 
     due_keeps : (due : ℕ) (b : List ℕ) → LeadsFine (after_node c due b)
-    due_keeps due b = grind (arith, letter_keeps)
+    due_keeps due b = grind arith
 
     player_keeps : (name : List ℕ) (o : Option ℕ) → LeadsFine (player_number c name o)
     player_keeps name o = grind arith
@@ -81,25 +82,10 @@ module _ (Given : Type 0) where
     set_keeps : (name : List ℕ) (player : ℕ) (o : Option ℕ) → LeadsFine (set_number c name player o)
     set_keeps name player o = grind (arith, past_set_keeps)
 
-    label_keeps : (name : List ℕ) (player n : ℕ) (set : InformationSet) (sum : Ratio) (label : List ℕ)
-        → IsShare sum → FineActions set.actions → (Given → IsLabel label)
-        → Fine (new_label c name player n set sum label).position
-        (new_label c name player n set sum label).content
-    label_keeps name player n set sum label share fine spelled = grind (arith, all_more)
-
     known_keeps : (key : SetKey) (set : InformationSet) → FineActions set.actions
         → FineSets (c.sets ++ one key set ∷ [])
     known_keeps key set fine =
         all_more (λ s. FineActions s.description.actions) c.sets (one key set) sets fine
-
-    ends_keeps : (name : List ℕ) (player n : ℕ) (set : InformationSet) (sum : Ratio)
-        → FineActions set.actions → LeadsFine (set_ends c name player n set sum)
-    ends_keeps name player n set sum fine = grind (arith, known_keeps)
-
-    new_ends_keeps : (name : List ℕ) (key : SetKey)
-        (set : InformationSet) (actions : List Action) (sum : Ratio)
-        → FineActions set.actions → LeadsFine (new_set_ends c name key set actions sum)
-    new_ends_keeps name key set actions sum fine = grind (arith, ends_keeps)
 
     shared_keeps : (name : List ℕ) (key : SetKey) (set : InformationSet)
         (sum : Ratio) (label b : List ℕ) (o : Result Share Why)
@@ -150,20 +136,11 @@ module _ (Given : Type 0) where
   pub keeps : (q : Position) (c : Content) (t : Token) → (Given → IsSpelled t) → Fine q c
       → LeadsFine (step q c t)
   keeps (NewAction name key set sum) c (Text l) h f =
-      label_keeps c f.1 f.2 name key.player key.number set sum l f.0.0 f.0.1 h
+      (grind (arith, all_more))
   keeps (NewAction name key set sum) c Closing h f =
-      new_ends_keeps c f.1 f.2 name key set set.actions sum f.0.1
+      (grind (arith, known_keeps))
   keeps (NewProbability name key set sum label) c (Bare b) h f =
       shared_keeps c f.1 f.2 name key set sum label b (share_of sum b) f.0.0 f.0.1 f.0.2 refl
   keeps (NewPayoff may b n outcome (suc left)) c (Bare t) h f =
       paid_keeps c f.1 f.2 b n outcome left t (number_of t) f.0 refl
-  keeps q c t h f = grind (
-    arith,
-    zero_share,
-    due_keeps,
-    player_keeps,
-    set_keeps,
-    outcome_keeps,
-    letter_keeps,
-    outcome_known,
-  )
+  keeps q c t h f = grind (arith, whole_fraction, due_keeps, player_keeps, set_keeps, outcome_keeps, letter_keeps, outcome_known)

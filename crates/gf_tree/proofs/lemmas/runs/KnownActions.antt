@@ -1,5 +1,5 @@
 -- Runs over the actions of a known information set in braces.
-use Rattle.gf_tree.proofs.Common.{arith, ◌≡◌, ℕ, zero, suc, List, [], ◌∷◌, ◌++◌, Option, Some, None}
+use Rattle.gf_tree.proofs.Common.{arith, ◌≡◌, ℕ, zero, suc, List, [], ◌∷◌, ◌++◌, Some, None}
 use Rattle.gf_tree.proofs.Common.{ap, subst, append_assoc, AllByRecursion, Token, Each}
 use Rattle.gf_tree.proofs.Common.{Closing, Text, Bare, Ratio, Action, AreActions}
 use Rattle.gf_tree.proofs.Common.{IsAction, Begun, Content, at, past_label, OutcomeNumber}
@@ -66,24 +66,12 @@ known_found (a ∷ actions) (suc player) (Text label ∷ ts) b c r has e =
 known_found (a ∷ actions) zero _ b c r has e = absurd (refused _ r tt e)
 known_found (a ∷ actions) (suc player) _ b c r has e = absurd (refused _ r tt e)
 
-pub label_again : (a : Action) (actions : List Action)
-    (o : Option Ratio) (ts : List Token) (b : Begun) (c : Content) → a.probability ≡ o
-    → run_tokens (KnownAction b (a ∷ actions)) c (Text a.label ∷ ts)
-    ≡ run_tokens (past_label b o actions) c ts
-label_again a actions o ts b c is = grind (arith, text_again)
-
 pub known_again : (actions : List Action) (player : ℕ)
     (inner rest : List Token) (b : Begun) (c : Content) → Each (IsAction player) inner actions
     → run_tokens (KnownAction b actions) c (inner ++ Closing ∷ rest)
     ≡ run_tokens (OutcomeNumber b) c rest
 known_again [] player inner rest b c each = rw each refl
 known_again (a ∷ actions) zero inner rest b c each =
-    grind (
-      arith,
-      label_again a actions (Some each.3.1) (Bare each.3.0 ∷ (each.1 ++ Closing ∷ rest))
-          b c each.3.4,
-      number_same each.3.1 (at (KnownAction b actions) c) each.3.0 each.3.3,
-      known_again actions 0 each.1 rest b c each.4,
-    )
+    grind (arith, text_again, number_same each.3.1 (at (KnownAction b actions) c) each.3.0 each.3.3, known_again actions 0 each.1 rest b c each.4)
 known_again (a ∷ actions) (suc player) inner rest b c each =
-    grind (arith, known_again actions (suc player) each.1 rest b c each.4, label_again)
+    grind (arith, known_again actions (suc player) each.1 rest b c each.4, text_again)

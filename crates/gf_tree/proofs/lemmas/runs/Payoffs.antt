@@ -4,7 +4,7 @@ use Common.{IsPayoffInBraces, append_assoc, number_again, with_outcome, KnownPay
 use Common.{same_number, with_payoff, append-nil, run_tokens, NewPayoff, number_is, with_node, Bare}
 use Common.{IsNumber, then_run, Closing, Content, NodeDue, Outcome, Result, length, Begun}
 use Common.{Comma, Ratio, State, Token, arith, false, Bool, Each, List, Some, paid, refl, true}
-use Common.{zero, ◌++◌, Why, inr, suc, ◌∙◌, ◌∷◌, ◌≡◌, ◌⊎◌, Ok, [], ap, at}
+use Common.{zero, ◌++◌, inr, suc, ◌∙◌, ◌∷◌, ◌≡◌, ◌⊎◌, Ok, [], ap, at}
 use Rattle.gf_fraction.specs.Offered.{number_of}
 use Rattle.gf_tree.proofs.lemmas.runs.Tokens.{ratio_same, run_on, Reads}
 
@@ -13,9 +13,6 @@ use Rattle.gf_tree.proofs.lemmas.runs.Tokens.{ratio_same, run_on, Reads}
 abbrev MayBeComma : Bool → List Token → Type 0
 MayBeComma true ts = (ts ≡ []) ⊎ (ts ≡ Comma ∷ [])
 MayBeComma false ts = ts ≡ []
-
-no_comma : (may : Bool) → MayBeComma may []
-no_comma may = grind arith
 
 -- (number [Comma])* Closing rest, after a comma if there may be one
 pub record Numbers (may : Bool) (ts : List Token) (numbers : List Ratio)
@@ -36,7 +33,7 @@ more_numbers may b p ts numbers rest is h = record {
   comma = [];
   inner = (Bare b ∷ h.comma) ++ h.inner;
   parts = cc (h.parts, append_assoc h.comma h.inner (Closing ∷ rest));
-  is_comma = no_comma may;
+  is_comma = grind arith;
   each = (Bare b ∷ h.comma, h.inner, refl, (b, h.comma, refl, is, h.is_comma), h.each);
 }
 
@@ -62,10 +59,6 @@ new_result c b n outcome = with_node (with_outcome c n outcome) b (Some n)
 pub no_payoffs : (outcome : Outcome) → with_payoffs outcome [] ≡ outcome
 no_payoffs outcome = ap (λ ps. record outcome { payoffs = ps }) (append-nil outcome.payoffs)
 
-pub more_payoffs : (outcome : Outcome) (p : Ratio) (ps : List Ratio)
-    → with_payoffs (with_payoff outcome p) ps ≡ with_payoffs outcome (p ∷ ps)
-more_payoffs outcome p ps = cc (append_assoc outcome.payoffs (p ∷ []) ps)
-
 pub record NewPayoffs (may : Bool) (ts : List Token) (b : Begun) (n : ℕ) (outcome : Outcome)
     (left : ℕ) (c r : Content) : Type 0 where
   pub numbers : List Ratio
@@ -83,14 +76,14 @@ paid_found c b n outcome left o ts r e = grind arith
 new_end : (may : Bool) (ts : List Token) (b : Begun) (n : ℕ) (outcome : Outcome) (c r : Content)
     → Reads NodeDue (new_result c b n outcome) ts r
     → NewPayoffs may (Closing ∷ ts) b n outcome zero c r
-new_end may ts b n outcome c r e = grind (arith, no_numbers may ts, no_payoffs outcome)
+new_end may ts b n outcome c r e = grind (arith, no_payoffs outcome)
 
 new_more : (may : Bool) (t : List ℕ) (p : Ratio) (ts : List Token)
     (b : Begun) (n : ℕ) (outcome : Outcome) (left : ℕ) (c r : Content) → number_of t ≡ Ok p
     → NewPayoffs true ts b n (with_payoff outcome p) left c r
     → NewPayoffs may (Bare t ∷ ts) b n outcome (suc left) c r
 new_more may t p ts b n outcome left c r e h =
-    grind (arith, more_numbers, number_is, more_payoffs)
+    grind (arith, more_numbers, number_is, append_assoc)
 
 pub new_found : (may : Bool) (ts : List Token) (b : Begun)
     (n : ℕ) (outcome : Outcome) (left : ℕ) (c r : Content)
@@ -103,19 +96,6 @@ new_found may (Bare t ∷ ts) b n outcome (suc left) c r e =
     (new_found true ts b n (with_payoff outcome h.0) left c r h.2)
 new_found may ts b n outcome left c r e = grind (arith, new_end)
 
--- a comma may stand before the rest or not
-pub comma_again : (at_comma : Bool → List Token → Result Content Why)
-    (comma ts : List Token) (o : Result Content Why)
-    → (at_comma true (Comma ∷ ts) ≡ at_comma false ts)
-    → (comma ≡ []) ⊎ (comma ≡ Comma ∷ []) → ((may : Bool) → at_comma may ts ≡ o)
-    → at_comma true (comma ++ ts) ≡ o
-comma_again at_comma comma ts o passes either h = grind arith
-
-first_number : (n : Ratio) (numbers : List Ratio) (inner rest : List Token)
-    (h : Each IsPayoffInBraces inner (n ∷ numbers))
-    → inner ++ Closing ∷ rest ≡ Bare h.3.0 ∷ (h.3.1 ++ (h.1 ++ Closing ∷ rest))
-first_number n numbers inner rest h = grind arith
-
 pub new_again : (numbers : List Ratio) (inner rest : List Token)
     (b : Begun) (n : ℕ) (outcome : Outcome) (c : Content)
     → Each IsPayoffInBraces inner numbers → (may : Bool)
@@ -125,26 +105,19 @@ new_again [] inner rest b n outcome c h may = cc (h, no_payoffs outcome)
 new_again (p ∷ numbers) inner rest b n outcome c h may =
     grind (
       arith,
-      first_number p numbers inner rest h,
       number_again h.3.0 p h.3.3,
       new_again
           numbers h.1 rest b n (with_payoff outcome p) c h.4,
-      more_payoffs outcome p numbers,
+      append_assoc outcome.payoffs (p ∷ []) numbers,
     )
 
 -- ---- of a known outcome
-
-same_found : (wanted : Ratio) (s : State)
-    (o : Result Ratio NumberFault) (ts : List Token) (r : Content)
-    → then_run (same_number wanted s o) (run_on ts) ≡ Ok r
-    → (o ≡ Ok wanted) × Reads s.position s.content ts r
-same_found wanted s o ts r e = grind arith
 
 -- a number that was to be this one
 pub number_found : (wanted : Ratio) (s : State) (t : List ℕ) (ts : List Token) (r : Content)
     → then_run (same_number wanted s (number_of t)) (run_on ts) ≡ Ok r
     → IsNumber t wanted × Reads s.position s.content ts r
-number_found wanted s t ts r e = grind (arith, same_found, number_is)
+number_found wanted s t ts r e = grind (arith, number_is)
 
 pub number_same : (p : Ratio) (s : State) (t : List ℕ) → IsNumber t p
     → same_number p s (number_of t) ≡ Ok s
@@ -166,4 +139,4 @@ pub known_again : (ps : List Ratio) (inner rest : List Token) (c : Content)
     → run_tokens (KnownPayoff may ps) c (inner ++ Closing ∷ rest) ≡ run_tokens NodeDue c rest
 known_again [] inner rest c h may = rw h refl
 known_again (p ∷ ps) inner rest c h may =
-    grind (arith, first_number, number_same, comma_again, known_again ps h.1 rest c h.4)
+    grind (arith, number_same, known_again ps h.1 rest c h.4)

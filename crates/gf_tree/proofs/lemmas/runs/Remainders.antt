@@ -5,7 +5,6 @@ use Rattle.gf_tree.proofs.Common.{negsuc, ◌+ℤ◌, *ℤ_comm, mul_above}
 use Rattle.std.specs.Int.{IsGcd}
 use Rattle.std.proofs.Math.Nat.{one-dvd, dvd-sub_iff_right}
 use Rattle.gf_fraction.proofs.Offered.{Adding-equal, equal_parts, equal_value, sum_fits}
-use Rattle.gf_tree.proofs.lemmas.runs.Shares.{no_sign}
 
 -- a sum of probabilities
 pub record IsShare (r : Ratio) : Type 0 where
@@ -19,7 +18,7 @@ zero_share = grind (arith, whole_fraction)
 -- numbers not below zero have a sum that is not
 pub sum_low : (x y r : Ratio)
     → 0 < x.den → 0 < y.den → pos 0 ≤ℤ x.num → pos 0 ≤ℤ y.num → IsSum r x y → pos 0 ≤ℤ r.num
-sum_low x y r hx hy lx ly is = grind (arith, no_sign, mul_above)
+sum_low x y r hx hy lx ly is = grind (arith, mul_above)
 
 -- what is left to one
 pub record Remainder (sum : Ratio) : Type 0 where
@@ -51,12 +50,7 @@ of_parts a d within is =
       rest = over (d - a) d;
       fraction = left;
       low = omega (arith, ints);
-      adds = (
-        sum_fits (over a d) (over (d - a) d) (pos a) (pos (d - a)) d d d 1 1 adding parts,
-        whole_fraction 1 (omega arith),
-        equal_value (whole (pos 1)) (over a d) (over (d - a) d) (pos a) (pos (d - a)) (pos d) d d
-            adding both (*ℤ_comm (pos 1) (pos d)),
-      );
+      adds = grind (arith, sum_fits, whole_fraction, equal_value, *ℤ_comm);
     }
 
 pub remainder : (sum : Ratio) → IsShare sum → Remainder sum

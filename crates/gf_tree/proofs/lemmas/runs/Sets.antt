@@ -3,14 +3,14 @@ use Rattle.gf_tree.proofs.Common
 use Common.{IsInformationSet, KnownSetOpening, AllByRecursion, whole_fraction, InformationSet, List}
 use Common.{description_at, OutcomeNumber, IsDescription, append_assoc, KnownSetName}
 use Common.{count_again, IsFraction, NewSetName, IsPositive, set_number, run_tokens, ℕ}
-use Common.{Described, SetNumber, count_of, same_set, past_set, then_run, count_is, ◌++◌}
+use Common.{Described, SetNumber, same_set, past_set, then_run, count_is, ◌++◌}
 use Common.{Opening, Closing, Content, length, Option, braced, SetKey, set_of, Learns, Some}
 use Common.{subst, arith, Token, whole, IsSet, begun, None, refl, Text, Bare, ◌≡◌, ◌<◌, ◌≤◌, ◌∷◌}
-use Common.{sym, ◌∙◌, inl, inr, ◌⊎◌, pos, Use, [], Ok, ap, at, set_with}
+use Common.{sym, ◌∙◌, inl, inr, ◌⊎◌, pos, Use, [], ap, at, set_with}
 use Rattle.gf_tree.proofs.lemmas.games.TreesOnce.{same_set_equality}
 use Rattle.gf_tree.proofs.lemmas.games.Members.{all_more}
 use Rattle.gf_tree.proofs.lemmas.runs.Tokens.{Reads, refused, run_on, text_found, text_again}
-use Rattle.gf_tree.proofs.lemmas.runs.Actions.{are_others, new_found, new_again}
+use Rattle.gf_tree.proofs.lemmas.runs.Actions.{new_found, new_again}
 use Rattle.gf_tree.proofs.lemmas.runs.KnownActions.{probabilities, known_found, known_again}
 use Rattle.gf_tree.proofs.lemmas.runs.Learned.{one, use_of, learns_new, learns_again, one_use}
 use Rattle.gf_tree.proofs.lemmas.runs.Learned.{IsNew, IsKnown, at_new, found_has}
@@ -101,13 +101,6 @@ known_after (Text label ∷ ts) name player n set c r are known e =
 known_after (Bare t ∷ ts) name player n set c r are known e = grind arith
 known_after ts name player n set c r are known e = absurd (refused _ r tt e)
 
-past_found : (ts : List Token) (name : List ℕ)
-    (player n : ℕ) (o : Option InformationSet) (c r : Content)
-    → player ≤ length c.players → 0 < n → AreSets (length c.players) c.sets
-    → description_at same_set c.sets (set_of player n) ≡ o
-    → Reads (past_set name (set_of player n) o) c ts r → Past ts name player n c r
-past_found ts name player n o c r among some are is e = grind (arith, new_after, known_after)
-
 -- ---- the number
 
 -- the number of a set and its description, and what follows
@@ -120,17 +113,10 @@ pub record SetRead (ts : List Token) (name : List ℕ) (player : ℕ) (c r : Con
   pub behind : Past others name player n c r
   pub open behind use {description, tokens, rest, sets, set, is_description, learns, goes_on}
 
-number_by : (ts : List Token) (t : List ℕ) (o : Option ℕ)
-    (name : List ℕ) (player : ℕ) (c r : Content)
-    → player ≤ length c.players → AreSets (length c.players) c.sets → count_of t ≡ o
-    → then_run (set_number c name player o) (run_on ts) ≡ Ok r
-    → SetRead (Bare t ∷ ts) name player c r
-number_by ts t o name player c r among are is e = grind (arith, count_is, past_found)
-
 pub set_found : (ts : List Token) (name : List ℕ) (player : ℕ) (c r : Content)
     → player ≤ length c.players → AreSets (length c.players) c.sets
     → Reads (SetNumber name player) c ts r → SetRead ts name player c r
-set_found (Bare t ∷ ts) name player c r among are e = grind (arith, number_by)
+set_found (Bare t ∷ ts) name player c r among are e = grind (arith, count_is, new_after, known_after)
 set_found _ name player c r among are e = absurd (refused _ r tt e)
 
 -- ---- each set of a node is read
@@ -164,7 +150,7 @@ past_again tokens rest t name u sets set c is good known (inl h) = by u.descript
         cc (append_assoc is.0 (Closing ∷ []) (Bare t ∷ rest)) in
         let again = new_again d.actions u.key.player is.0 (Bare t ∷ rest) name u.key.number
         (record { name = d.name; actions = [] }) (whole (pos 0)) c zero_fraction is.2
-        (are_others u.key.player d.actions good_set.actions) good_set.some_action in
+        (grind arith) good_set.some_action in
         cc
 past_again tokens rest t name u sets set c is good known (inr h) =
     ap (λ o. run_tokens (past_set name u.key o) c (tokens ++ Bare t ∷ rest)) h.is_known

@@ -13,9 +13,6 @@ use Rattle.gf_fraction.specs.Offered.{number_of, sum_of}
 abbrev pub ok_share : Share → Result Share Why
 ok_share s = Ok s
 
-not_negative : (z : ℤ) → int_lt z (pos 0) ≡ false → pos 0 ≤ℤ z
-not_negative z h = grind (arith, ints)
-
 test_negative : (z : ℤ) → pos 0 ≤ℤ z → int_lt z (pos 0) ≡ false
 test_negative z h = grind (arith, ints)
 
@@ -55,7 +52,7 @@ by_sign : (sum p : Ratio) (b : List ℕ) (s : Share) (below : Bool) → IsFracti
 by_sign sum p b s true fraction number is e = absurd cc
 by_sign sum p b s false fraction number is e =
     by_sum sum p b s (sum_of sum p) (sum_is_computed sum p fraction number.fraction) number
-    (not_negative p.num is) e
+    (grind (arith, ints)) e
 
 by_number : (sum : Ratio) (b : List ℕ) (s : Share) (o : Result Ratio NumberFault)
     → number_of b ≡ o → IsFraction sum → share_by sum o ≡ ok_share s → Shared sum b s

@@ -91,13 +91,7 @@ child_is_there {N} t at i h j =
       begin = rw sizes (begin_first i r.below (subtrees_all r.others) (omega (arith, less)));
       begin_more =
           rw sizes (begin_first (suc i) r.below (subtrees_all r.others) (omega (arith, less)));
-      there =
-          rw (sizes, tree)
-          (cc (
-            slice_get_after (subtrees t) (at + 1) (skipped i (map (λ s. length (flatten s))
-                (subtrees_all r.below ++ subtrees_all r.others))),
-            skips_to i r.below (subtrees_all r.others) less,
-          ));
+      there = grind (arith, slice_get_after, skips_to);
     }
 
 -- ---- the nodes of a game
@@ -127,9 +121,6 @@ module _ {sets : List (Described SetKey InformationSet)} {outcomes : List (Descr
 
   pub sizes_beside : sizes_of nodes ≡ subtree_sizes tree
   sizes_beside = h.are.sizes ∙ ap subtree_sizes h.is
-
-  pub as_many : length nodes ≡ length (subtrees tree)
-  as_many = grind (arith, length-map, sizes_beside)
 
   pub node_there : (at : ℕ) (d : Stored) → at < length (subtrees tree)
       → root_node (subtree_at tree at) ≡ node_with sets outcomes (kept_of (get_or nodes at d))

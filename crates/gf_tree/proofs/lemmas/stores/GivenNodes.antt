@@ -13,14 +13,6 @@ use Rattle.gf_tree.proofs.lemmas.games.Members.{map_same, map_twice, something_t
 use Rattle.gf_tree.proofs.lemmas.games.TreesOnce.{same_set_equality}
 use Rattle.gf_tree.proofs.lemmas.games.Uses.{IsEquality}
 
--- ---- lists
-
--- an item with those before it, after others
-past_front : {A B : Type 0} (f : List A → A → B) (front : List A) (x : A) (xs : List A)
-    → map (λ p. f (front ++ p.0) p.1) (with_those_before (x ∷ xs))
-    ≡ f front x ∷ map (λ p. f ((front ++ x ∷ []) ++ p.0) p.1) (with_those_before xs)
-past_front {A} {B} f front x xs = grind (arith, append-nil, map_twice, map_same, append_assoc)
-
 -- ---- the use at a position, after other uses
 
 -- this use comes after those before, and stands for the key at this position
@@ -76,10 +68,7 @@ module _ (g : Game) (game : IsGame g) (nodes : List Kept)
     set_here : IsUse same_set g.sets (sets_in front) (sets_in ns)
         (entry_with g.sets g.outcomes n).node.set n.set met_sets
     set_here = record {
-      all = game.one_entry_each_set
-          ∙ ap (λ es. first_uses same_set (filter_map (λ (e : Listed Node). e.node.set) es)) split
-          ∙ ap (first_uses same_set) (filter_map-append (λ (e : Listed Node). e.node.set)
-          (entries front) (entries (n ∷ ns)));
+      all = grind (arith, split, filter_map-append);
       is = refl;
       within = placed.set;
       met_are = here.sets;
@@ -88,10 +77,7 @@ module _ (g : Game) (game : IsGame g) (nodes : List Kept)
     outcome_here : IsUse nat_eq g.outcomes (outcomes_in front) (outcomes_in ns)
         (entry_with g.sets g.outcomes n).node.outcome n.outcome met_outcomes
     outcome_here = record {
-      all = game.one_entry_each_outcome
-          ∙ ap (λ es. first_uses nat_eq (filter_map (λ (e : Listed Node). e.node.outcome) es)) split
-          ∙ ap (first_uses nat_eq) (filter_map-append (λ (e : Listed Node). e.node.outcome)
-          (entries front) (entries (n ∷ ns)));
+      all = grind (arith, split, filter_map-append);
       is = refl;
       within = placed.outcome;
       met_are = here.outcomes;
@@ -110,11 +96,7 @@ module _ (g : Game) (game : IsGame g) (nodes : List Kept)
     goes_on : IsFront (front ++ n ∷ []) ns (max met_sets n.set) (max met_outcomes n.outcome)
     goes_on = record {
       parts = here.parts ∙ sym (append_assoc front (n ∷ []) ns);
-      sets = met_given same_set_equality n.set met_sets set_here
-          ∙ ap (λ ks. length (first_uses same_set ks))
-          (sym (ap (filter_map (λ (e : Listed Node). e.node.set)) one_more
-          ∙ filter_map-append (λ (e : Listed Node). e.node.set) (entries front)
-          (entries (n ∷ []))));
+      sets = grind (arith, met_given, same_set_equality, set_here, one_more, filter_map-append);
       outcomes = met_given Decides-eqb n.outcome met_outcomes outcome_here
           ∙ ap (λ ks. length (first_uses nat_eq ks))
           (sym (ap (filter_map (λ (e : Listed Node). e.node.outcome)) one_more
@@ -136,8 +118,7 @@ module _ (g : Game) (game : IsGame g) (nodes : List Kept)
       node_after g (es ++ p.0) p.1.node) (with_those_before (entries ns)))
       (one_more front n ns met_sets met_outcomes here placed.0) in
       (λ i. node i ∷ others i)
-      ∙ sym (past_front (λ before (e : Listed Node). node_after g before e.node)
-      (entries front) (entry_with g.sets g.outcomes n) (entries ns))
+      ∙ sym (grind (arith, append-nil, map_twice, map_same, append_assoc))
 
   pub nodes_are_given : AreAmong (length g.sets) (length g.outcomes) nodes
       → map (λ t. t.node) (told_from OfFile g.sets g.outcomes 0 0 nodes) ≡ file_nodes g

@@ -36,8 +36,7 @@ begin_at : {N : Type 0} (t : Tree N) (at c : ℕ) (rest : List ℕ) → at < len
     → drop at (counts_of (flatten t)) ≡ c ∷ rest → Begin c (sizes_grown rest)
 begin_at {N} t at c rest h e =
     let r = stands t at h in
-    let here : drop at (counts_of (flatten t))
-    ≡ count r.below ∷ counts_of (flatten_all r.below ++ flatten_all r.others) =
+    let here =
     drop-map (λ (e : Listed N). e.children) at (flatten t) ∙ ap counts_of r.stands.entries in
     let first : c ≡ count r.below = cc in
     let others : rest ≡ counts_of (flatten_all r.below ++ flatten_all r.others) = cc in

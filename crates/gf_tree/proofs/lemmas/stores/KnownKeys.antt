@@ -110,20 +110,15 @@ module _ {K : Type 0} (same : K → K → Bool) (tells : IsEquality same) where
         ≡ max (length (first_uses same before)) (suc k)
     known_there = by (list_any (same d.key) before) refl
       where
-        then : (b : Bool) → list_any (same d.key) before ≡ b
-            → length (first_uses same (before ++ d.key ∷ []))
-            ≡ length (more_known b (first_uses same before) d.key)
-        then b h = cc (known_more before d.key)
-
         by : (b : Bool) → list_any (same d.key) before ≡ b
             → length (first_uses same (before ++ d.key ∷ []))
             ≡ max (length (first_uses same before)) (suc k)
         by true h =
-            then true h
+            (cc (known_more before d.key))
             ∙ sym (max-eq_left {n = length (first_uses same before)} {m = suc k} (number_again h))
         by false h =
             let next = number_new h in
             let more : length (first_uses same before ++ d.key ∷ []) ≡ suc k =
             length-append (first_uses same before) (d.key ∷ []) ∙ omega (arith, next) in
-            then false h ∙ more
+            (cc (known_more before d.key)) ∙ more
             ∙ grind arith

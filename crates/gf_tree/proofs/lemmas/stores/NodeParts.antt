@@ -1,19 +1,21 @@
 -- The parts of a node as it is kept: who moves there, its actions, and the place after its subtree.
+use Rattle.gf_tree.proofs.Common.{length-map}
+use Rattle.gf_tree.proofs.lemmas.stores.GameNodes.{sizes_beside}
 use Rattle.gf_tree.proofs.Common
 use Common.{get_or_from_slice_get, position_from-zero, slice_get_within, length}
 use Common.{outcome_numbers, InformationSet, position_from, slice_get-map, subtree_sizes, slice_get}
-use Common.{used_outcomes, number_among, subtrees_all, MatchOption, Decides-eqb, at_position, subst}
+use Common.{used_outcomes, number_among, subtrees_all, Decides-eqb, at_position, subst}
 use Common.{child_trees, option_map, subtree_at, same_Some, Described, game_with, tree_with, get_or}
 use Common.{root_node, position, drop-map, known_of, AreNodes, subtrees, flatten, Outcome}
 use Common.{IsAmong, kept_of, skipped, branch, Stored, Action, SetKey, set_of, IsGame, set_at, zero}
-use Common.{nat_eq, arith, Parts, Begin, List, ◌++◌, drop, take, Some, refl, Tree, ◌≡◌}
+use Common.{nat_eq, arith, Parts, Begin, List, drop, take, Some, refl, Tree, ◌≡◌}
 use Common.{more, Game, Node, suc, ◌+◌, ◌-◌, ◌<◌, ◌≤◌, ◌∷◌, map, sym, ◌∙◌, [], ap, ℕ}
 use Rattle.std.proofs.lemmas.List.{append-nil, drop-drop}
 use Rattle.gf_tree.specs.inner.GameParts.{IsKeptAt}
 use Rattle.gf_tree.specs.Movers.{IsMover}
 use Rattle.gf_tree.specs.OutcomePositions.{position_among}
 use Rattle.gf_tree.proofs.lemmas.games.FirstUses.{AreDistinct, first_uses_distinct}
-use Rattle.gf_tree.proofs.lemmas.stores.GameNodes.{IsTreeOf, as_many, child_is_there}
+use Rattle.gf_tree.proofs.lemmas.stores.GameNodes.{IsTreeOf, child_is_there}
 use Rattle.gf_tree.proofs.lemmas.stores.GameNodes.{children_there, node_there, placed_there}
 use Rattle.gf_tree.proofs.lemmas.stores.Places.{at_index}
 use Rattle.gf_tree.proofs.lemmas.games.Lookups.{entry_at}
@@ -34,8 +36,7 @@ pub begin_here : {N : Type 0} (t : Tree N) (at : ℕ) → at < length (subtrees 
     → Begin 1 (drop at (subtree_sizes t))
 begin_here {N} t at h =
     let r = stands t at (rw (← subtrees_counted t) h) in
-    let here : drop at (subtree_sizes t) ≡ map (λ s. length (flatten s))
-    (subtrees_all (more (branch r.node r.below) r.others) ++ []) =
+    let here =
     drop-map (λ (s : Tree N). length (flatten s)) at (subtrees t)
     ∙ ap (map (λ (s : Tree N). length (flatten s)))
     (r.stands.trees ∙ sym (append-nil (subtrees_all (more (branch r.node r.below) r.others)))) in
@@ -142,7 +143,7 @@ kept_there p nodes g at n are is h here =
       children = cc (children_there tree at n within, here);
       placed = subst (λ (m : Stored). IsAmong (length sets) (length outcomes) (kept_of m))
           (sym here) (placed_there (length sets) (length outcomes) nodes at n are.placed
-          (omega (arith, within, as_many tree)));
+          (grind (arith, within, length-map, sizes_beside)));
     })
 
 module _ (g : Game) (at : ℕ) (n : Stored) (kept : IsKeptAt g at n) where
@@ -152,7 +153,7 @@ module _ (g : Game) (at : ℕ) (n : Stored) (kept : IsKeptAt g at n) where
   set_is : (k : ℕ) → n.set ≡ k → node.set ≡ option_map (λ s. s.key) (at_position g.sets k)
   set_is k e = cc kept.node
 
-  set_before : ¬ (n.set ≡ 0) → node.set ≡ option_map (λ s. s.key) (slice_get g.sets (n.set - 1))
+  pub set_before : ¬ (n.set ≡ 0) → node.set ≡ option_map (λ s. s.key) (slice_get g.sets (n.set - 1))
   set_before some = cc (set_is n.set refl, at_index g.sets n.set (omega (arith, some)))
 
   pub set_below : ¬ (n.set ≡ 0) → n.set - 1 < length g.sets
@@ -163,17 +164,10 @@ module _ (g : Game) (at : ℕ) (n : Stored) (kept : IsKeptAt g at n) where
       → number_among g.sets (n.set - 1) ≡ Some among → IsMover g node.set (Some (player, among))
   is_mover player number among some key his = (
     set_of player number,
-    set_before some ∙ key,
+    (cc (set_is n.set refl, at_index g.sets n.set (omega (arith, some)))) ∙ key,
     refl,
     mover_there g.sets (n.set - 1) player number among (set_below some) key his,
   )
-
-  pub are_actions : (actions : List Action) → IsGame g → ¬ (n.set ≡ 0)
-      → option_map (λ s. s.description.actions) (slice_get g.sets (n.set - 1)) ≡ Some actions
-      → MatchOption node.set (actions ≡ [])
-      (λ key. option_map (λ set. set.actions) (set_at g key) ≡ Some actions)
-  are_actions actions game some h =
-      grind (arith, something_there, set_below, set_before, actions_there)
 
   pub outcome_position : IsGame g → n.outcome ≡ position_among (outcome_numbers g) node.outcome
   outcome_position game = by n.outcome refl kept.placed.outcome

@@ -1,4 +1,6 @@
 -- What is stored of outcomes, and what it says about those that are known.
+use Rattle.gf_tree.proofs.lemmas.games.Members.{all_more}
+use Rattle.gf_tree.proofs.lemmas.stores.Stretching.{up_to}
 use Rattle.gf_tree.proofs.Common.{◌≡◌, ℕ, ◌+◌, ◌<◌, ◌^◌, List, [], ◌∷◌, ◌++◌, length, map, drop}
 use Rattle.gf_tree.proofs.Common.{arith, Ratio, label_of, Outcome, Described, drop-append-le}
 use Rattle.gf_tree.proofs.Common.{KnownOutcomes, stored_outcomes, AreOutcomes, refl, ap, ◌∙◌}
@@ -8,7 +10,7 @@ use Rattle.std.specs.Map.{keys_of}
 use Rattle.gf_tree.specs.declared.game.outcomes.StoredOutcome.{StoredOutcome}
 use Rattle.gf_tree.specs.inner.StoredOutcomes.{described, end_of}
 use Rattle.gf_tree.proofs.lemmas.stores.Places.{at_index}
-use Rattle.gf_tree.proofs.lemmas.stores.Stretching.{entry_after, items_after}
+use Rattle.gf_tree.proofs.lemmas.stores.Stretching.{items_after}
 
 abbrev Entry : Type 0
 Entry = ℕ × StoredOutcome
@@ -39,8 +41,7 @@ module _ (entries : List Entry) (payoffs : List Ratio) (from : ℕ)
         → stored_outcomes entries after from
         ≡ record whole { pending = whole.pending ++ payoff ∷ [] }
     payoff_pushed after payoff is =
-        let known : map (described (payoffs ++ payoff ∷ [])) entries
-        ≡ map (described payoffs) entries =
+        let known =
         items_after (λ (e : Entry). e.1.start) (λ (e : Entry). end_of e.1) made_of entries payoffs
         (payoff ∷ []) from are.stretches in
         let rest : drop from (payoffs ++ payoff ∷ []) ≡ drop from payoffs ++ payoff ∷ [] =
@@ -57,4 +58,4 @@ module _ (entries : List Entry) (payoffs : List Ratio) (from : ℕ)
         → last ≡ length payoffs → new.1.start ≡ from → end_of new.1 ≡ last
         → length entries + 1 < 2 ^ 32 → AreOutcomes stored payoffs last
     outcome_stored new stored last is all starts ends room =
-        grind (arith, entry_after, length-append)
+        grind (arith, all_more, up_to, length-append)

@@ -1,10 +1,10 @@
 -- The nodes that are kept, by new numbers of their sets and outcomes.
 use Rattle.gf_tree.proofs.Common
-use Common.{renumbered_node, actions_counted, InformationSet, renumbered_set, slice_get-map, Option}
+use Common.{renumbered_node, actions_counted, InformationSet, renumbered_set, slice_get-map}
 use Common.{subtree_sizes, entries_with, at_position, Renumbering, option_map, renumbered, map_tree}
-use Common.{map_trees, Described, game_with, tree_with, flatten, Outcome, no_node, Listed, SetKey}
+use Common.{map_trees, Described, game_with, tree_with, flatten, Outcome, Listed, SetKey}
 use Common.{others, arith, Trees, Fills, Parts, first, List, refl, Tree, more, grow, []}
-use Common.{Node, Kept, root, ◌≡◌, suc, ◌+◌, ◌∷◌, map, ◌∙◌, ap, ℕ}
+use Common.{Kept, ◌≡◌, suc, ◌+◌, ◌∷◌, map, ◌∙◌, ap, ℕ}
 use Rattle.gf_tree.proofs.lemmas.games.Consistent.{map_entry, flatten_map}
 use Rattle.gf_tree.proofs.lemmas.stores.SubtreeSizes.{counts_of, sizes_are}
 
@@ -24,10 +24,6 @@ grow_mapped : {N M : Type 0} (f : N → M) (es : List (Listed N))
     → grow (map (map_entry f) es) ≡ map_trees f (grow es)
 grow_mapped f [] = refl
 grow_mapped f (e ∷ es) = grind (arith, first_mapped, others_mapped, grow_mapped f es)
-
-root_mapped : (r : Renumbering) (ts : Trees Node) → root no_node (map_trees (renumbered_node r) ts)
-    ≡ map_tree (renumbered_node r) (root no_node ts)
-root_mapped r ts = grind arith
 
 pub fills_mapped : {N M : Type 0} (f : N → M) (due : ℕ) (es : List (Listed N)) → Fills due es
     → Fills due (map (map_entry f) es)
@@ -59,20 +55,6 @@ set_image r s = record { key = renumbered_set r s.key; description = s.descripti
 abbrev pub outcome_image : Renumbering → Described ℕ Outcome → Described ℕ Outcome
 outcome_image r o = record { key = r.outcome o.key; description = o.description }
 
-key_image : (r : Renumbering) (o : Option (Described SetKey InformationSet))
-    → option_map (λ s. s.key) (option_map (set_image r) o)
-    ≡ option_map (renumbered_set r) (option_map (λ s. s.key) o)
-key_image r o = grind arith
-
-number_image : (r : Renumbering) (o : Option (Described ℕ Outcome))
-    → option_map (λ s. s.key) (option_map (outcome_image r) o)
-    ≡ option_map r.outcome (option_map (λ s. s.key) o)
-number_image r o = grind arith
-
-counted_image : (r : Renumbering) (o : Option (Described SetKey InformationSet))
-    → actions_counted (option_map (set_image r) o) ≡ actions_counted o
-counted_image r o = grind arith
-
 module _ (r : Renumbering) (sets : List (Described SetKey InformationSet))
     (outcomes : List (Described ℕ Outcome)) where
   pub entries_mapped : (ns : List Kept)
@@ -81,12 +63,12 @@ module _ (r : Renumbering) (sets : List (Described SetKey InformationSet))
   entries_mapped [] = refl
   entries_mapped (n ∷ ns) =
       let set = ap (option_map (λ s. s.key)) (at_position_map (set_image r) sets n.set)
-      ∙ key_image r (at_position sets n.set) in
+      ∙ (grind arith) in
       let outcome =
       ap (option_map (λ o. o.key)) (at_position_map (outcome_image r) outcomes n.outcome)
-      ∙ number_image r (at_position outcomes n.outcome) in
+      ∙ (grind arith) in
       let count = ap actions_counted (at_position_map (set_image r) sets n.set)
-      ∙ counted_image r (at_position sets n.set) in
+      ∙ (grind arith) in
       λ i. record {
         node = record { name = n.name; set = set i; outcome = outcome i };
         children = count i;
@@ -95,7 +77,7 @@ module _ (r : Renumbering) (sets : List (Described SetKey InformationSet))
   pub tree_mapped : (ns : List Kept)
       → tree_with (map (set_image r) sets) (map (outcome_image r) outcomes) ns
       ≡ map_tree (renumbered_node r) (tree_with sets outcomes ns)
-  tree_mapped ns = grind (arith, entries_mapped, grow_mapped, root_mapped)
+  tree_mapped ns = grind (arith, entries_mapped, grow_mapped)
 
 -- the same parts by new numbers
 abbrev pub renumbered_parts : Renumbering → Parts → Parts

@@ -137,8 +137,7 @@ module _ (g : Game) (game : IsGame g) (lists : List (List ℕ)) (outcomes : List
         set = s;
         stands = t.1;
         positive = omega (arith, among);
-        player = omega
-            (arith, some_player g game lists outcomes listed s.key used, listed.one_list_each);
+        player = grind (arith, some_player);
         within = rw before (slice_get_within (own s) a.before _ number);
         number = rw before number;
       }
@@ -159,7 +158,6 @@ module _ (g : Game) (game : IsGame g) (lists : List (List ℕ)) (outcomes : List
   found_in known place n player number items e h k a own_is =
       let r = listed_at place n h
       (ap (λ (ss : List (Described SetKey InformationSet)). number_among ss place) (sym e) ∙ a) in
-      let key : Some r.set.key ≡ Some (set_of player number) = grind arith in
       let items_are : items ≡ get_or lists r.set.key.player [] = grind arith in
       record {
         positive = r.positive;
@@ -226,10 +224,6 @@ module _ (g : Game) (game : IsGame g) (lists : List (List ℕ)) (outcomes : List
       subst AreDistinct (sym h.one_entry_each_outcome)
       (first_uses_distinct nat_eq Decides-eqb (used_outcomes (renumbered by_list g).tree))
 
-  outcome_there : (place : ℕ) (o : Described ℕ Outcome) → slice_get g.outcomes place ≡ Some o
-      → slice_get (renumbered by_list g).outcomes place ≡ Some (outcome_image by_list o)
-  outcome_there place o h = cc (slice_get-map (outcome_image by_list) g.outcomes place)
-
   listed_outcome : (place number : ℕ) (o : Described ℕ Outcome)
       → slice_get g.outcomes place ≡ Some o → slice_get outcomes place ≡ Some number
       → number ≡ by_list.outcome o.key
@@ -244,7 +238,7 @@ module _ (g : Game) (game : IsGame g) (lists : List (List ℕ)) (outcomes : List
       let t = something_there g.outcomes place h in
       let is = listed_outcome place number t.0 t.1 m in
       rw (f, is) (next_absent nat_eq Decides-eqb (renumbered by_list g).outcomes place
-      (outcome_image by_list t.0) distinct_outcomes (outcome_there place t.0 t.1))
+      (outcome_image by_list t.0) distinct_outcomes (cc (slice_get-map (outcome_image by_list) g.outcomes place)))
 
   pub outcome_added : (from now new : List (Described ℕ Outcome)) (place number : ℕ)
       → from ≡ g.outcomes → now ≡ take place (renumbered by_list g).outcomes
@@ -259,7 +253,7 @@ module _ (g : Game) (game : IsGame g) (lists : List (List ℕ)) (outcomes : List
       let one : new ≡ now ++ record { key = number; description = t.0.description } ∷ [] =
       rw (e, t.1) at added in
       let more = taken (renumbered by_list g).outcomes place (outcome_image by_list t.0)
-      (outcome_there place t.0 t.1) in (
+      (cc (slice_get-map (outcome_image by_list) g.outcomes place)) in (
         one ∙ (λ i. f i ++ record { key = is i; description = t.0.description } ∷ []) ∙ sym more,
         rw one (all_more (λ (o : Described ℕ Outcome). o.key < 2 ^ 32) now _ all small),
       )

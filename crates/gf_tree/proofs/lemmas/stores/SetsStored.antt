@@ -1,4 +1,6 @@
 -- What is stored of sets, and what it says about those that are known.
+use Rattle.gf_tree.proofs.lemmas.games.Members.{all_more}
+use Rattle.gf_tree.proofs.lemmas.stores.Stretching.{up_to}
 use Rattle.gf_tree.proofs.Common
 use Common.{AllByRecursion, AreSets, AreStretches, Described, HoldActions, InformationSet, KnownSets}
 use Common.{slice_get_within, SetKey, ◌++◌, ◌+◌, ◌<◌, ◌==◌, ◌^◌, ◌∙◌, ◌∷◌, ◌≡◌, ◌≢◌, ◌≤◌, List, None, Some, [], action_of}
@@ -13,7 +15,7 @@ use Rattle.gf_tree.specs.declared.game.action.Action.{Action as Held}
 use Rattle.gf_tree.specs.declared.game.sets.SetKey.{SetKey as StoredKey}
 use Rattle.gf_tree.specs.declared.game.sets.StoredSet.{StoredSet}
 use Rattle.gf_tree.specs.inner.StoredSets.{AreNumbered}
-use Rattle.gf_tree.proofs.lemmas.stores.Stretching.{entry_within, items_after, items_until, part_until}
+use Rattle.gf_tree.proofs.lemmas.stores.Stretching.{items_after, items_until, part_until}
 
 abbrev pub Entry : Type 0
 Entry = StoredKey × StoredSet
@@ -136,8 +138,7 @@ module _ (players : List (List ℕ)) (entries : List Entry) (actions : List Held
     pub action_pushed : stored_sets entries after from
         ≡ record whole { pending = whole.pending ++ action_of action ∷ [] }
     action_pushed =
-        let rest : actions_of (drop from (actions ++ action ∷ []))
-        ≡ actions_of (drop from actions) ++ action_of action ∷ [] =
+        let rest =
         ap actions_of (drop-append-le from actions (action ∷ []) are.stretches.within)
         ∙ map-append action_of (drop from actions) (action ∷ []) in
         cc (is, same_known)
@@ -175,11 +176,7 @@ module _ (players : List (List ℕ)) (entries : List Entry) (actions : List Held
         items_until (λ (e : Entry). e.1.start) (λ (e : Entry). end_of e.1) set_made entries actions
         from last are.stretches behind last_within in
         let this : actions_of (slice_range (take last actions) new.1.start (end_of new.1))
-        ≡ actions_of (drop from actions) =
-        cc (
-          part_until actions new.1.start (end_of new.1) last holds.ordered ends last_within,
-          holds.same,
-        ) in
+        ≡ actions_of (drop from actions) = grind (arith, part_until, ends, last_within) in
         cc (is, cut, map-append (described (take last actions)) entries (new ∷ []))
 
     pub view_then : stored_sets stored kept last
@@ -195,8 +192,7 @@ module _ (players : List (List ℕ)) (entries : List Entry) (actions : List Held
         → new.1.among ≡ length (get_or players new.0.player []) + 1
         → length entries + 1 < 2 ^ 32 → AreSets after stored kept last
     are_then after others own among room = record {
-      stretches = rw (is, cut) (entry_within (λ (e : Entry). e.1.start) (λ (e : Entry). end_of e.1)
-          entries actions from last new are.stretches behind last_within holds.ordered ends);
+      stretches = rw (is, cut) (grind (arith, length-take-le, all_more, up_to));
       numbered = rw (known_then, is) (numbered_then players after entries new
           (map (described actions) entries) set (length-map entries (described actions))
           are.numbered others own among);

@@ -3,7 +3,6 @@ use Rattle.gf_tree.proofs.Common.{AllByRecursion, length-take-le, take-append-le
 use Rattle.gf_tree.proofs.Common.{AreStretches, length-drop, slice_range, length, arith, List, ◌++◌}
 use Rattle.gf_tree.proofs.Common.{take, drop, refl, ◌≡◌, ◌≤◌, ◌∷◌, map, sym, ◌∙◌, [], ap}
 use Rattle.std.proofs.lemmas.List.{take-append-drop}
-use Rattle.gf_tree.proofs.lemmas.games.Members.{all_more}
 
 same_part : {T : Type 0} (items more : List T) (i j : ℕ) → i ≤ j → j ≤ length items
     → slice_range (items ++ more) i j ≡ slice_range items i j
@@ -12,7 +11,7 @@ same_part items more i j ordered within = grind (arith, drop-append-le, take-app
 abbrev Ends : {E : Type 0} → (E → ℕ) → (E → ℕ) → ℕ → E → Type 0
 Ends start end from e = (start e ≤ end e) × (end e ≤ from)
 
-up_to : {E : Type 0} (start end : E → ℕ) (entries : List E) (from to : ℕ) → from ≤ to
+pub up_to : {E : Type 0} (start end : E → ℕ) (entries : List E) (from to : ℕ) → from ≤ to
     → AllByRecursion (Ends start end from) entries → AllByRecursion (Ends start end to) entries
 up_to start end [] from to more all = all
 up_to start end (e ∷ es) from to more all =
@@ -39,34 +38,14 @@ module _ {E T : Type 0} (start end : E → ℕ) where
       → map (made make (items ++ more)) entries ≡ map (made make items) entries
   items_after make entries items more from are = grind (arith, same_made)
 
-  -- the items so far become the stretch of a new entry
-  pub entry_after : (entries : List E) (items : List T) (from : ℕ) (e : E)
-      → AreStretches start end entries items from → start e ≡ from → end e ≡ length items
-      → AreStretches start end (entries ++ e ∷ []) items (length items)
-  entry_after entries items from e are starts ends = grind (arith, all_more, up_to)
-
-  -- items after the stretches may go
-  until : (entries : List E) (items : List T) (from last : ℕ)
-      → AreStretches start end entries items from → from ≤ last → last ≤ length items
-      → AreStretches start end entries (take last items) from
-  until entries items from last are behind within = grind (arith, length-take-le)
-
   pub items_until : {D : Type 0} (make : E → List T → D) (entries : List E) (items : List T)
       (from last : ℕ) → AreStretches start end entries items from → from ≤ last
       → last ≤ length items
       → map (made make (take last items)) entries ≡ map (made make items) entries
   items_until make entries items from last are behind within =
       sym (items_after make entries (take last items) (drop last items) from
-      (until entries items from last are behind within))
+      (grind (arith, length-take-le)))
       ∙ ap (λ (xs : List T). map (made make xs) entries) (take-append-drop last items)
-
-  -- a stretch of the items so far becomes that of a new entry, and all items after it go
-  pub entry_within : (entries : List E) (items : List T) (from last : ℕ) (e : E)
-      → AreStretches start end entries items from → from ≤ last → last ≤ length items
-      → start e ≤ end e → end e ≤ last
-      → AreStretches start end (entries ++ e ∷ []) (take last items) last
-  entry_within entries items from last e are behind within ordered ends =
-      grind (arith, length-take-le, all_more, up_to)
 
 pub part_until : {T : Type 0} (items : List T) (i j last : ℕ) → i ≤ j → j ≤ last
     → last ≤ length items → slice_range (take last items) i j ≡ slice_range items i j

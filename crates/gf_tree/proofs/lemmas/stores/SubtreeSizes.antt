@@ -197,15 +197,11 @@ pub record SkipsOnce (xs : List ℕ) (at left s : ℕ) : Type 0 where
   pub begin : Begin left (drop (at + s) xs)
   pub same : at + s + skipped left (drop (at + s) xs) ≡ at + skipped (suc left) (drop at xs)
 
-once_here : (s : ℕ) (xs : List ℕ) (left : ℕ) → Begin (suc left) (s ∷ xs)
-    → SkipsOnce (s ∷ xs) 0 left s
-once_here s xs left h = grind arith
-
 pub skips_once : (xs : List ℕ) (at left : ℕ) → Begin (suc left) (drop at xs)
     → SkipsOnce xs at left (get_or xs at 0)
 skips_once [] zero left h = absurd h
 skips_once [] (suc at) left h = absurd h
-skips_once (s ∷ xs) zero left h = once_here s xs left h
+skips_once (s ∷ xs) zero left h = (grind arith)
 skips_once (s ∷ xs) (suc at) left h =
     let r = skips_once xs at left h in
     let t = get_or xs at 0 in

@@ -16,8 +16,7 @@ invariant_of-result c =
     c.in_ok-nodes.ensures.items_if_clones_equal (λ x y h. h) ∙ c.deref-2.ensures.value in
     let sets : c.in_ok-sets.sets.known ≡ map (set_image r) c.self.inside.parts.sets.known =
     c.in_ok-sets.ensures.known ∙ ap (λ (g : Game). map (set_image r) g.sets) (sym c.self.view_is) in
-    let outcomes : c.in_ok-outcomes.outcomes.known
-    ≡ map (outcome_image r) c.self.inside.parts.outcomes.known =
+    let outcomes =
     c.in_ok-outcomes.ensures.known
     ∙ ap (λ (g : Game). map (outcome_image r) g.outcomes) (sym c.self.view_is) in
     let new =
@@ -41,8 +40,7 @@ returns c =
     c.in_ok-nodes.ensures.items_if_clones_equal (λ x y h. h) ∙ c.deref-2.ensures.value in
     let sets : c.in_ok-sets.sets.known ≡ map (set_image r) c.self.inside.parts.sets.known =
     c.in_ok-sets.ensures.known ∙ ap (λ (g : Game). map (set_image r) g.sets) (sym c.self.view_is) in
-    let outcomes : c.in_ok-outcomes.outcomes.known
-    ≡ map (outcome_image r) c.self.inside.parts.outcomes.known =
+    let outcomes =
     c.in_ok-outcomes.ensures.known
     ∙ ap (λ (g : Game). map (outcome_image r) g.outcomes) (sym c.self.view_is) in
     let p = parts_of c.self.inside.parts in

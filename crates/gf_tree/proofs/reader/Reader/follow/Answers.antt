@@ -1,5 +1,5 @@
-use Rattle.gf_tree.proofs.Common.{◌∙◌, ap, refl, rules, Content, Reader}
-use Rattle.gf_tree.proofs.lemmas.reader.Steps.{carried, fails_back, heard_begun}
+use Rattle.gf_tree.proofs.Common.{◌∙◌, ap, rules, Content, Reader}
+use Rattle.gf_tree.proofs.lemmas.reader.Steps.{carried, fails_back}
 use Rattle.gf_tree.proofs.lemmas.reader.ToldGames.{read_whole}
 use Rattle.gf_tree.proofs.reader.Reader.follow.Goals as goal
 
@@ -27,7 +27,7 @@ returns r c =
       answered = read_whole (r.R.Receive.holds c.args.to.now) c.args.self.now.tokens.input
           c.args.self.now.tokens.ahead c.begin.new.self c.nodes.new.self c.nodes.new.to
           (record {
-            goes = heard_begun c.args.self.now _ refl c.requires.content
+            goes = (cc)
                 ∙ c.in_ok-last.ensures.machine;
             sets = ap (λ (k : Reader). k.sets.known) read
                 ∙ ap (λ (d : Content). d.sets) c.requires.content;

@@ -3,8 +3,6 @@ use Rattle.gf_tree.proofs.Common.{is_quoted, starts, Reader, with_node, KnownOut
 use Rattle.gf_tree.proofs.Common.{begun_with, content_of}
 use Rattle.gf_token.proofs.Offered.{index_answers, index_read}
 use Rattle.gf_tree.proofs.lemmas.reader.Steps.{fails_back, lacks_memory}
-use Rattle.gf_tree.proofs.lemmas.stores.PassedBy.{outcome_passed_by}
-use Rattle.gf_tree.specs.inner.ReaderState.{with_children}
 use Rattle.gf_tree.proofs.lemmas.reader.Telling.{grows_none, reads_none, shorter_by, tells}
 use Rattle.gf_tree.proofs.reader.Reader.outcome.Goals as goal
 
@@ -49,9 +47,7 @@ returns g c =
     {r = record c.args.self.now { tokens = c.index.new.self }}
     refl refl (grows_none c.args.self.now.sets.known) (grows_none c.args.self.now.outcomes.known)
     (record { set = c.requires.set; outcome = known.within })
-    told (search rules) reads_none (outcome_passed_by
-    (content_of (with_children now c.args.set)) known.outcome now.tokens.input now.tokens.ahead
-    none) refl (shorter_by c.in-Some.ensures.next)
+    told (search rules) reads_none (grind arith) refl (shorter_by c.in-Some.ensures.next)
 
 pub returns-in_default : goal.returns-in_default
 returns-in_default g c = grind (arith, index_answers)

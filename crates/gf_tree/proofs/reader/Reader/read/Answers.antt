@@ -1,6 +1,6 @@
 use Rattle.gf_tree.proofs.Common.{List, ℕ, subst, Ok}
 use Rattle.gf_tree.specs.inner.ReaderState.{IsRead}
-use Rattle.gf_tree.proofs.lemmas.reader.Steps.{carried, heard_begun}
+use Rattle.gf_tree.proofs.lemmas.reader.Steps.{carried}
 use Rattle.gf_tree.proofs.reader.Reader.read.Goals as goal
 
 pub returns-in-Ok : goal.returns-in-Ok
@@ -15,5 +15,5 @@ returns r c =
       tokens = c.new-reader.result.tokens.ahead;
       spelled = n.spelled;
       answered = carried c.in-Err.ensures
-          (heard_begun c.new-reader.result c.args.input.now n.input n.content);
+          (cc);
     }

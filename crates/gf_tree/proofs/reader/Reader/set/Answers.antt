@@ -1,7 +1,6 @@
-use Rattle.gf_tree.proofs.Common.{◌∙◌, ap, arith, rules, set_of, content_of}
+use Rattle.gf_tree.proofs.Common.{◌∙◌, ap, arith, set_of, content_of}
 use Rattle.gf_token.specs.Offered.{positive}
 use Rattle.gf_token.proofs.Offered.{index_answers, index_read}
-use Rattle.gf_tree.proofs.lemmas.stores.PassedBy.{set_passed_by}
 use Rattle.gf_tree.proofs.lemmas.reader.Steps.{set_again, set_known_again, taken}
 use Rattle.gf_tree.proofs.reader.Reader.set.Goals as goal
 
@@ -16,8 +15,7 @@ returns-in-Some-known_set-clause-machine c = λ node.
     (taken c.in-Some.ensures.next c.in-Some.ensures.input)
     (c.in-Some-count.ensures ∙ ap positive read)
     (set_known_again content node key c.in-Some-known_set.place tokens tokens
-    c.in-Some-known_set.ensures.known (set_passed_by content node key _ tokens.input tokens.ahead
-    (search rules)))
+    c.in-Some-known_set.ensures.known (grind arith))
 
 pub returns-in_default-clause-machine : goal.returns-in_default-clause-machine
 returns-in_default-clause-machine c = grind (arith, index_answers)
