@@ -56,7 +56,7 @@ carried_map {K} same tells f us es fs apart q p h =
         → description_at same (at_images f es) k ≡ description_at same fs k
     lookups k i =
         let o = mapped_from f us k (was_used same (map f us) k (subst (λ ks. Has ks k) image i)) in
-        cc (o.2, image_lookup same tells f us es o.0 apart q o.1, h o.0 o.1)
+        grind (arith, o.2, lookup_image, same_tests, of_keys, h o.0 o.1)
 
 pub at_images_itself : {K D : Type 0} (es : List (Described K D)) → at_images (λ k. k) es ≡ es
 at_images_itself [] = refl

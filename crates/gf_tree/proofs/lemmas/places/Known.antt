@@ -3,7 +3,7 @@ use Rattle.gf_tree.proofs.lemmas.runs.Ends.{by_node}
 use Rattle.gf_tree.proofs.lemmas.runs.Ends.{none_due}
 use Rattle.gf_tree.proofs.Common.{append_assoc, IsNode}
 use Rattle.gf_tree.proofs.Common.{filter_map, Described, FileNode, Position, index_is, same_set, []}
-use Rattle.gf_tree.proofs.Common.{Content, flatten, Learns, Listed, Option, length}
+use Rattle.gf_tree.proofs.Common.{Content, flatten, Learns, Listed, Option}
 use Rattle.gf_tree.proofs.Common.{nat_eq, Token, arith, codes, subst, Bare, Bool, Each, List, None}
 use Rattle.gf_tree.proofs.Common.{Text, refl, zero, ◌++◌, Use, map, suc, sym, ◌∙◌, ◌∷◌, ◌≡◌, ap, ℕ}
 use Rattle.gf_token.proofs.Offered.{walks, run_after}
@@ -71,9 +71,7 @@ says_more {title} {note} {players} said n tokens h = record {
   parts = grind (arith, append_assoc, terminals);
   is_letter = h.is_letter;
   is_comment = h.is_comment;
-  are_nodes =
-      each_more (IsNode (length players)) said (blanks n) h.nodes (terminals n) h.are_nodes
-      (are_blank (length players) n);
+  are_nodes = grind (arith, each_more, terminals, are_blank);
 }
 
 -- ---- what the nodes before them describe

@@ -141,10 +141,7 @@ module _ {T : Type 0} (holds : T → T → Heading → List Told → Type 0) (un
       → HasTold (λ t told. holds untold t heading told) (with_children new set) to
       (nodes ++ h.node ∷ [])
   told_one_more {old} {new} {from} {to} {nodes} {before} {set} k h = record {
-    placed = placed_one_more (length new.sets.known) (length new.outcomes.known) nodes h.node
-        (placed_among_more (length old.sets.known) (length old.outcomes.known)
-        (length new.sets.known) (length new.outcomes.known) nodes (grows_length h.sets)
-        (grows_length h.outcomes) k.placed) h.placed.set h.placed.outcome;
+    placed = grind (arith, placed_one_more, placed_among_more, grows_length);
     told = subst (holds untold to heading) (sym (grind (arith, told_more)))
         (h.told untold heading (told_from ByFirstUse new.sets.known new.outcomes.known 0 0 nodes)
         (subst (holds untold from heading) (sym (grind (arith, told_stays))) k.told));

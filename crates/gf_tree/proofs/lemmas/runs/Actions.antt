@@ -3,7 +3,7 @@ use Rattle.gf_tree.proofs.Common.{AllByRecursion, InformationSet, OutcomeNumber,
 use Rattle.gf_tree.proofs.Common.{with_action, append-nil, IsFraction, []}
 use Rattle.gf_tree.proofs.Common.{run_tokens, NewAction, share_of, IsAction, then_run, Ok}
 use Rattle.gf_tree.proofs.Common.{with_set, Closing, Content, AddUpTo, length, Option, Result, List}
-use Rattle.gf_tree.proofs.Common.{AddsTo, Action, SetKey, set_of, shared, subst, arith, Token, ◌++◌}
+use Rattle.gf_tree.proofs.Common.{AddsTo, Action, set_of, shared, subst, arith, Token, ◌++◌}
 use Rattle.gf_tree.proofs.Common.{Ratio, whole, Share, begun, Some, None, refl, ◌≤ℤ◌, Each, ℕ}
 use Rattle.gf_tree.proofs.Common.{Text, Bare, ◌≡◌, suc, ◌<◌, ◌∷◌, sym, ◌∙◌, pos, Why, ap}
 use Rattle.gf_tree.proofs.lemmas.runs.Tokens.{Reads, run_on, ratio_is}
@@ -69,13 +69,6 @@ new_more first ts name label player n set p sum next c r is are h =
 abbrev pub ok_share : Share → Result Share Why
 ok_share s = Ok s
 
-pub shared_found : (c : Content) (name : List ℕ) (key : SetKey) (set : InformationSet)
-    (label : List ℕ)
-    (o : Result Share Why) (ts : List Token) (r : Content)
-    → then_run (shared c name key set label o) (run_on ts) ≡ Ok r → (s : Share) × (o ≡ ok_share s)
-    × Reads (NewAction name key (with_action set label (Some s.probability)) s.sum) c ts r
-shared_found c name key set label o ts r e = grind arith
-
 pub new_found : (ts : List Token) (name : List ℕ) (player n : ℕ)
     (set : InformationSet) (sum : Ratio) (c r : Content) → IsFraction sum
     → Reads (NewAction name (set_of player n) set sum) c ts r
@@ -85,7 +78,7 @@ new_found (Text label ∷ ts) name (suc player) n set sum c r fraction e =
     (λ actions h. (refl, h))
     (new_found ts name (suc player) n (with_action set label None) sum c r fraction e)
 new_found (Text label ∷ Bare b ∷ ts) name zero n set sum c r fraction e =
-    let h = shared_found c name (set_of 0 n) set label (share_of sum b) ts r e in
+    let h : (s : Share) × ((share_of sum b) ≡ ok_share s) × Reads (NewAction name (set_of 0 n) (with_action set label (Some s.probability)) s.sum) c ts r = grind arith in
     let s = h.0 in
     let is = share_found sum b s fraction h.1 in
     new_more (Text label ∷ Bare b ∷ []) ts name label 0 n set (Some s.probability) sum s.sum c r
@@ -102,18 +95,13 @@ record FirstShare (sum p : Ratio) (actions : List Action) : Type 0 where
   adds : AddsTo sum p next
   others : AreOthers 0 next actions
 
--- the first probability, and that the others add up to one with it
-first_share : (a : Action) (actions : List Action) (p sum : Ratio) → a.probability ≡ Some p
-    → AreOthers 0 sum (a ∷ actions) → FirstShare sum p actions
-first_share a actions p sum e h = grind arith
-
 -- the sum of the probabilities so far is at most one, if the others add up to one with it
 high : (actions : List Action) (inner : List Token) (sum : Ratio) → IsFraction sum
     → Each (IsAction 0) inner actions → AreOthers 0 sum actions → sum.num ≤ℤ pos sum.den
 high [] inner sum fraction each h = grind arith
 high (a ∷ actions) inner sum fraction each h =
     let p = each.3.1 in
-    let s = first_share a actions p sum each.3.4 h in
+    let s : FirstShare sum p actions = grind arith in
     sum_high sum p s.next each.3.3.fraction.den_above_zero fraction.den_above_zero s.not_below
     s.adds (high actions each.1 s.next s.adds.1 each.4 s.others)
 
@@ -129,7 +117,7 @@ new_again [] player inner rest name n set sum c fraction each h some =
 new_again (a ∷ actions) zero inner rest name n set sum c fraction each h some =
     let b = each.3.0 in
     let p = each.3.1 in
-    let s = first_share a actions p sum each.3.4 h in
+    let s : FirstShare sum p actions = grind arith in
     let is : a ≡ record { label = a.label; probability = Some p } =
     λ i. record { label = a.label; probability = each.3.4 i } in
     let all : with_actions (with_action set a.label (Some p)) actions

@@ -1,5 +1,6 @@
 -- Each state that the machine of the reader comes to can be completed, by tokens that can be
 -- spelled if those before can.
+use Rattle.gf_tree.proofs.Common.{whole_fraction}
 use Rattle.gf_tree.proofs.Common
 use Common.{finish, KnownOutcomeOpening, NewOutcomeOpening, KnownProbability, KnownOutcomeName}
 use Common.{KnownSetOpening, written_is_read, InformationSet, description_at, ◌≡◌}
@@ -18,7 +19,7 @@ use Rattle.gf_token.proofs.Offered.{number_spelled, AllSpelled}
 use Rattle.gf_tree.proofs.lemmas.runs.Tokens.{Reads, run_on, text_again}
 use Rattle.gf_tree.proofs.lemmas.runs.Payoffs.{number_same}
 use Rattle.gf_tree.proofs.lemmas.runs.Shares.{share_again}
-use Rattle.gf_tree.proofs.lemmas.runs.Remainders.{IsShare, remainder, zero_share}
+use Rattle.gf_tree.proofs.lemmas.runs.Remainders.{IsShare, remainder}
 use Rattle.gf_tree.proofs.lemmas.runs.Keeps.{Fine, FineActions, FinePayoffs}
 
 pub zero_is_index : index_of (codes "0") ≡ Some 0
@@ -182,7 +183,7 @@ module _ (Given : Type 0) where
   new_set_end : (name : List ℕ) (key : SetKey) (label : List ℕ) (c : Content)
       → Ends (NewSetOpening name key label) c
   new_set_end name key label c = by (NewSetOpening name key label) c Opening (λ g. tt) _ refl
-      (action_ends name key.player key.number _ (whole (pos 0)) c zero_share)
+      (action_ends name key.player key.number _ (whole (pos 0)) c (grind (arith, whole_fraction)))
 
   known_actions_end : (actions : List Action) (b : Begun) (c : Content) → FineActions Given actions
       → Ends (KnownAction b actions) c

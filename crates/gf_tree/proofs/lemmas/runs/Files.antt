@@ -1,14 +1,14 @@
 -- Runs over all nodes of a file, in prefix order.
 use Rattle.gf_tree.proofs.Common
 use Common.{AllByRecursion, InformationSet, description_at, length-append, append_assoc, option_map}
-use Common.{outcome_uses, cons_option, HasChildren, append-nil, keys_alone, after_node}
-use Common.{run_tokens, Described, same_set, FileNode, set_uses, then_run, Outcome, Content, length}
+use Common.{outcome_uses, cons_option, HasChildren, append-nil, keys_alone}
+use Common.{run_tokens, Described, same_set, FileNode, set_uses, Outcome, Content, length}
 use Common.{NodeDue, game_in, Option, nat_eq, Listed, Learns, IsNode, SetKey, subst, arith}
 use Common.{Token, Fills, zero, List, ◌++◌, Some, refl, Bare, Each, Game, ℕ}
-use Common.{Node, ◌≡◌, suc, ◌+◌, ◌-◌, ◌<◌, ◌∷◌, map, sym, ◌∙◌, Use, [], Ok}
+use Common.{Node, ◌≡◌, suc, ◌+◌, ◌-◌, ◌<◌, ◌∷◌, map, sym, ◌∙◌, Use, []}
 use Rattle.gf_tree.proofs.lemmas.games.Consistent.{map_entry}
 use Rattle.gf_tree.proofs.lemmas.games.TreesOnce.{same_set_equality}
-use Rattle.gf_tree.proofs.lemmas.runs.Tokens.{Reads, run_on, ok_read, ok_is}
+use Rattle.gf_tree.proofs.lemmas.runs.Tokens.{Reads, ok_read}
 use Rattle.gf_tree.proofs.lemmas.runs.Sets.{AreSets}
 use Rattle.gf_tree.proofs.lemmas.runs.Nodes.{letter_found, node_again, MapOf, HasChildrenBy}
 use Rattle.gf_tree.proofs.lemmas.runs.Nodes.{set_key, past_node, NodeRead}
@@ -46,12 +46,6 @@ pub more_uses : {K D : Type 0} (o : Option (Use K D)) (us : List (Use K D))
     → uses_of o ++ us ≡ cons_option o us
 more_uses o us = grind arith
 
-children_kept : (sets end : MapOf) (o : Option SetKey) (children : ℕ)
-    → ((key : SetKey) (d : InformationSet) → description_at same_set sets key ≡ Some d
-    → description_at same_set end key ≡ Some d)
-    → HasChildrenBy sets o children → HasChildrenBy end o children
-children_kept sets end o children same h = grind arith
-
 nodes_more : (ts : List Token) (due : ℕ) (c r : Content) → c.due ≡ suc due → (h : NodeRead ts c r)
     → NodesRead h.rest (past_node c h.node h.children h.sets h.outcomes) r → NodesRead ts c r
 nodes_more ts due c r is h k =
@@ -73,32 +67,22 @@ nodes_more ts due c r is h k =
       learns_outcomes = rw (← more_uses h.node.outcome (outcome_uses k.entries)) (learns_on nat_eq
           (uses_of h.node.outcome) (outcome_uses k.entries) c.outcomes h.outcomes r.outcomes
           h.learns_outcomes k.learns_outcomes);
-      children = grind (arith, children_kept, set_key, kept);
+      children = grind (arith, set_key, kept);
       are_sets = k.are_sets;
       are_outcomes = k.are_outcomes;
     }
-
--- a node takes tokens
-shorter : (ts : List Token) (c r : Content) (h : NodeRead ts c r) → length h.rest < length ts
-shorter ts c r h = grind (arith, length-append)
-
-pub due_by : (b : List ℕ) (ts : List Token) (due : ℕ) (c r : Content)
-    → c.due ≡ due → AreSets (length c.players) c.sets → AreOutcomes (length c.players) c.outcomes
-    → then_run (after_node c due b) (run_on ts) ≡ Ok r
-    → NodeRead (Bare b ∷ ts) c r × ((left : ℕ) × (c.due ≡ suc left))
-due_by b ts due c r is sets outcomes e = grind (arith, letter_found)
 
 nodes_by : (size : ℕ) (ts : List Token) (c r : Content)
     → length ts < size → AreSets (length c.players) c.sets
     → AreOutcomes (length c.players) c.outcomes → Reads NodeDue c ts r → NodesRead ts c r
 nodes_by (suc size) (Bare b ∷ ts) c r within sets outcomes e =
-    let h = due_by b ts c.due c r refl sets outcomes e in
+    let h : NodeRead (Bare b ∷ ts) c r × ((left : ℕ) × (c.due ≡ suc left)) = grind (arith, letter_found) in
     let n = h.0 in
-    let less = shorter (Bare b ∷ ts) c r n in
+    let less : length n.rest < length (Bare b ∷ ts) = grind (arith, length-append) in
     nodes_more (Bare b ∷ ts) h.1.0 c r h.1.1 n
     (nodes_by size n.rest (past_node c n.node n.children n.sets n.outcomes) r
     (omega (arith, within, less)) n.are_sets n.are_outcomes n.goes_on)
-nodes_by size ts c r within sets outcomes e = grind (arith, ok_is, append-nil)
+nodes_by size ts c r within sets outcomes e = grind (arith, append-nil)
 
 pub nodes_found : (ts : List Token) (c r : Content) → AreSets (length c.players) c.sets
     → AreOutcomes (length c.players) c.outcomes → Reads NodeDue c ts r → NodesRead ts c r

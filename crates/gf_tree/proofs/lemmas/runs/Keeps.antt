@@ -3,11 +3,11 @@
 -- actions that it knows can be spelled, if the tokens can.
 use Rattle.gf_tree.proofs.Common.{whole_fraction}
 use Rattle.gf_tree.proofs.Common
-use Common.{KnownOutcomeOpening, KnownOutcomeName, KnownProbability, KnownSetOpening, player_number}
-use Common.{AllByRecursion, InformationSet, NewProbability, description_at, outcome_number, Closing}
+use Common.{KnownOutcomeOpening, KnownOutcomeName, KnownProbability, KnownSetOpening}
+use Common.{AllByRecursion, InformationSet, NewProbability, description_at, Closing}
 use Common.{KnownSetName, PersonalName, PlayerNumber, past_outcome, Decides-eqb, Bare}
-use Common.{KnownAction, KnownPayoff, MatchOption, NumberFault, node_letter, IsFraction, after_node}
-use Common.{set_number, Described, NewAction, NewPayoff, number_is, Position, past_set}
+use Common.{KnownAction, KnownPayoff, MatchOption, NumberFault, IsFraction}
+use Common.{Described, NewAction, NewPayoff, number_is, Position, past_set}
 use Common.{same_set, share_of, Content, Outcome, Action, Option, Result, SetKey, length}
 use Common.{nat_eq, shared, Begun, Ratio, Share, State, Token, arith, List, None, Some, Text, paid}
 use Common.{IsLabel, IsSpelled, refl, step, ◌++◌, Err, Why, suc, ◌<◌, ◌∷◌, ◌≡◌, Ok, [], ℕ}
@@ -61,15 +61,6 @@ module _ (Given : Type 0) where
   LeadsFine (Err why) = Unit {0}
 
   module _ (c : Content) (sets : FineSets c.sets) (outcomes : FineOutcomes c.outcomes) where
-    letter_keeps : (b : List ℕ) → LeadsFine (node_letter c b)
-    letter_keeps b = grind arith
-
-    due_keeps : (due : ℕ) (b : List ℕ) → LeadsFine (after_node c due b)
-    due_keeps due b = grind arith
-
-    player_keeps : (name : List ℕ) (o : Option ℕ) → LeadsFine (player_number c name o)
-    player_keeps name o = grind arith
-
     past_set_keeps : (name : List ℕ) (key : SetKey) (o : Option InformationSet)
         → description_at same_set c.sets key ≡ o → Fine (past_set name key o) c
     past_set_keeps name key None e = (tt, sets, outcomes)
@@ -78,9 +69,6 @@ module _ (Given : Type 0) where
       sets,
       outcomes,
     )
-
-    set_keeps : (name : List ℕ) (player : ℕ) (o : Option ℕ) → LeadsFine (set_number c name player o)
-    set_keeps name player o = grind (arith, past_set_keeps)
 
     known_keeps : (key : SetKey) (set : InformationSet) → FineActions set.actions
         → FineSets (c.sets ++ one key set ∷ [])
@@ -116,9 +104,6 @@ module _ (Given : Type 0) where
       outcomes,
     )
 
-    outcome_keeps : (b : Begun) (o : Option ℕ) → LeadsFine (outcome_number c b o)
-    outcome_keeps b o = grind (arith, past_outcome_keeps)
-
     paid_keeps : (b : Begun) (n : ℕ) (outcome : Outcome)
         (left : ℕ) (t : List ℕ) (o : Result Ratio NumberFault)
         → FinePayoffs outcome.payoffs → number_of t ≡ o → LeadsFine (paid c b n outcome left o)
@@ -143,4 +128,4 @@ module _ (Given : Type 0) where
       shared_keeps c f.1 f.2 name key set sum label b (share_of sum b) f.0.0 f.0.1 f.0.2 refl
   keeps (NewPayoff may b n outcome (suc left)) c (Bare t) h f =
       paid_keeps c f.1 f.2 b n outcome left t (number_of t) f.0 refl
-  keeps q c t h f = grind (arith, whole_fraction, due_keeps, player_keeps, set_keeps, outcome_keeps, letter_keeps, outcome_known)
+  keeps q c t h f = grind (arith, whole_fraction, past_set_keeps, past_outcome_keeps, outcome_known)

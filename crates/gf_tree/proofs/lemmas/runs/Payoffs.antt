@@ -1,9 +1,9 @@
 -- Runs over the payoffs of an outcome in braces, for a new outcome and for a known one.
 use Rattle.gf_tree.proofs.Common
-use Common.{IsPayoffInBraces, append_assoc, number_again, with_outcome, KnownPayoff, NumberFault, ℕ}
+use Common.{IsPayoffInBraces, append_assoc, number_again, with_outcome, KnownPayoff, ℕ}
 use Common.{same_number, with_payoff, append-nil, run_tokens, NewPayoff, number_is, with_node, Bare}
-use Common.{IsNumber, then_run, Closing, Content, NodeDue, Outcome, Result, length, Begun}
-use Common.{Comma, Ratio, State, Token, arith, false, Bool, Each, List, Some, paid, refl, true}
+use Common.{IsNumber, then_run, Closing, Content, NodeDue, Outcome, length, Begun}
+use Common.{Comma, Ratio, State, Token, arith, false, Bool, Each, List, Some, refl, true}
 use Common.{zero, ◌++◌, inr, suc, ◌∙◌, ◌∷◌, ◌≡◌, ◌⊎◌, Ok, [], ap, at}
 use Rattle.gf_fraction.specs.Offered.{number_of}
 use Rattle.gf_tree.proofs.lemmas.runs.Tokens.{ratio_same, run_on, Reads}
@@ -67,12 +67,6 @@ pub record NewPayoffs (may : Bool) (ts : List Token) (b : Begun) (n : ℕ) (outc
   pub count : length numbers ≡ left
   pub goes_on : Reads NodeDue (new_result c b n (with_payoffs outcome numbers)) rest r
 
-pub paid_found : (c : Content) (b : Begun) (n : ℕ) (outcome : Outcome) (left : ℕ)
-    (o : Result Ratio NumberFault) (ts : List Token) (r : Content)
-    → then_run (paid c b n outcome left o) (run_on ts) ≡ Ok r
-    → (p : Ratio) × (o ≡ Ok p) × Reads (NewPayoff true b n (with_payoff outcome p) left) c ts r
-paid_found c b n outcome left o ts r e = grind arith
-
 new_end : (may : Bool) (ts : List Token) (b : Begun) (n : ℕ) (outcome : Outcome) (c r : Content)
     → Reads NodeDue (new_result c b n outcome) ts r
     → NewPayoffs may (Closing ∷ ts) b n outcome zero c r
@@ -91,7 +85,7 @@ pub new_found : (may : Bool) (ts : List Token) (b : Begun)
 new_found true (Comma ∷ ts) b n outcome left c r e =
     grind (arith, past_comma, new_found false ts b n outcome left c r e)
 new_found may (Bare t ∷ ts) b n outcome (suc left) c r e =
-    let h = paid_found c b n outcome left (number_of t) ts r e in
+    let h : (p : Ratio) × ((number_of t) ≡ Ok p) × Reads (NewPayoff true b n (with_payoff outcome p) left) c ts r = grind arith in
     new_more may t h.0 ts b n outcome left c r h.1
     (new_found true ts b n (with_payoff outcome h.0) left c r h.2)
 new_found may ts b n outcome left c r e = grind (arith, new_end)

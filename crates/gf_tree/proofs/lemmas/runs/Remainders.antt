@@ -2,7 +2,6 @@
 use Rattle.gf_tree.proofs.Common.{◌≡◌, ◌<◌, ◌≤◌, ◌-◌, ℕ, refl, sym, ap, subst, arith, pos, ◌≤ℤ◌}
 use Rattle.gf_tree.proofs.Common.{ints, Ratio, IsFraction, whole, IsSum, AddsTo, whole_fraction, ℤ}
 use Rattle.gf_tree.proofs.Common.{negsuc, ◌+ℤ◌, *ℤ_comm, mul_above}
-use Rattle.std.specs.Int.{IsGcd}
 use Rattle.std.proofs.Math.Nat.{one-dvd, dvd-sub_iff_right}
 use Rattle.gf_fraction.proofs.Offered.{Adding-equal, equal_parts, equal_value, sum_fits}
 
@@ -11,9 +10,6 @@ pub record IsShare (r : Ratio) : Type 0 where
   pub fraction : IsFraction r
   pub low : pos 0 ≤ℤ r.num
   pub high : r.num ≤ℤ pos r.den
-
-pub zero_share : IsShare (whole (pos 0))
-zero_share = grind (arith, whole_fraction)
 
 -- numbers not below zero have a sum that is not
 pub sum_low : (x y r : Ratio)
@@ -30,16 +26,13 @@ pub record Remainder (sum : Ratio) : Type 0 where
 abbrev over : ℕ → ℕ → Ratio
 over a d = record { num = pos a; den = d }
 
-left_apart : (a d : ℕ) → a ≤ d → IsGcd a d 1 → IsGcd (d - a) d 1
-left_apart a d within is = grind (arith, one-dvd, dvd-sub_iff_right)
-
 of_parts : (a d : ℕ) → a ≤ d → IsFraction (over a d) → Remainder (over a d)
 of_parts a d within is =
     let left : IsFraction (over (d - a) d) = record {
       den_above_zero = is.den_above_zero;
       den_within = is.den_within;
       num_within = let small = is.den_within in omega (arith, small);
-      lowest = left_apart a d within is.lowest;
+      lowest = grind (arith, one-dvd, dvd-sub_iff_right);
     } in
     let adding = Adding-equal (over a d) (over (d - a) d) (pos a) (pos (d - a)) d d is left refl
     refl refl refl refl in

@@ -14,7 +14,6 @@ use Rattle.gf_tree.proofs.lemmas.runs.Actions.{new_found, new_again}
 use Rattle.gf_tree.proofs.lemmas.runs.KnownActions.{probabilities, known_found, known_again}
 use Rattle.gf_tree.proofs.lemmas.runs.Learned.{one, use_of, learns_new, learns_again, one_use}
 use Rattle.gf_tree.proofs.lemmas.runs.Learned.{IsNew, IsKnown, at_new, found_has}
-use Rattle.gf_tree.proofs.lemmas.Once.{one_some}
 
 -- these sets are known
 abbrev pub with_sets : Content → List (Described SetKey InformationSet) → Content
@@ -143,7 +142,7 @@ past_again tokens rest t name u sets set c is good known (inl h) = by u.descript
         let there : description_at same_set sets u.key ≡ Some h.description =
         cc (at_new same_set same_set_equality c.sets u.key h.description h.unknown) in
         let same : d ≡ set =
-        first ∙ one_some (description_at same_set sets u.key) h.description set there known in
+        first ∙ (cc) in
         let good_set = subst (IsSet (length c.players) u.key) (sym same) good in
         let behind : List Token = is.0 ++ Closing ∷ (Bare t ∷ rest) in
         let text : tokens ++ Bare t ∷ rest ≡ Text d.name ∷ Opening ∷ behind =

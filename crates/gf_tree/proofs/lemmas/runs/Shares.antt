@@ -13,12 +13,6 @@ use Rattle.gf_fraction.specs.Offered.{number_of, sum_of}
 abbrev pub ok_share : Share → Result Share Why
 ok_share s = Ok s
 
-test_negative : (z : ℤ) → pos 0 ≤ℤ z → int_lt z (pos 0) ≡ false
-test_negative z h = grind (arith, ints)
-
-test_above : (z : ℤ) (d : ℕ) → z ≤ℤ pos d → int_lt (pos d) z ≡ false
-test_above z d h = grind (arith, ints)
-
 -- ---- what was read
 
 -- the probability that was read, and the sum through it
@@ -71,9 +65,9 @@ pub share_again : (sum p next : Ratio) (b : List ℕ)
     → share_of sum b ≡ ok_share (record { probability = p; sum = next })
 share_again sum p next b fraction number low adds high =
     let known = number_again b p number in
-    let sign = test_negative p.num low in
+    let sign : int_lt p.num (pos 0) ≡ false = grind (arith, ints) in
     let added = sum_of-some sum p fraction number.fraction next adds.0 adds.1 adds.2 in
-    let bound = test_above next.num next.den high in
+    let bound : int_lt (pos next.den) next.num ≡ false = grind (arith, ints) in
     ap (share_by sum) known ∙ rw (sign, added, bound) refl
 
 pub no_sign : (k d a b u v e : ℕ)

@@ -19,9 +19,6 @@ run_on ts s = any_format.run next at_end s ts
 abbrev pub ok_read : Content → Result Content Why
 ok_read r = Ok r
 
-pub ok_is : (x y : Content) → ok_read x ≡ ok_read y → x ≡ y
-ok_is x y e = cc
-
 -- what is refused is not read
 abbrev pub IsErr : Result Content Why → Type 0
 IsErr (Ok r) = ⊥

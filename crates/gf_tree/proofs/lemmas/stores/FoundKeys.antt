@@ -31,7 +31,7 @@ module _ {K D : Type 0} (same : K → K → Bool) (tells : IsEquality same) (key
       → position_from (same key) start (map (λ e. e.key) es) ≡ None
       → find (λ e. same e.key key) es ≡ None
   not_found_from [] start h = refl
-  not_found_from (e ∷ es) start h = grind (arith, either_way, not_found_from es (start + 1))
+  not_found_from (e ∷ es) start h = grind (arith, not_found_from es (start + 1))
 
   pub described_at : (es : List (Described K D)) (place : ℕ)
       → position (same key) (map (λ e. e.key) es) ≡ Some place

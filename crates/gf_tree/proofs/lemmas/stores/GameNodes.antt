@@ -74,8 +74,7 @@ pub child_is_there : {N : Type 0} (t : Tree N) (at i : ℕ)
     → at < length (subtrees t) → i < length (child_trees (subtree_at t at)) → IsChildPlace t at i
 child_is_there {N} t at i h j =
     let r = stands t at (rw (← subtrees_counted t) h) in
-    let here : drop at (subtrees t)
-    ≡ branch r.node r.below ∷ (subtrees_all r.below ++ subtrees_all r.others) = r.stands.trees in
+    let here = r.stands.trees in
     let tree : subtree_at t at ≡ branch r.node r.below = get_or_from_drop (subtrees t)
     (subtrees_all r.below ++ subtrees_all r.others) at (branch r.node r.below) t here in
     let behind : drop (suc at) (subtrees t) ≡ subtrees_all r.below ++ subtrees_all r.others =

@@ -97,11 +97,7 @@ module _ (g : Game) (game : IsGame g) (nodes : List Kept)
     goes_on = record {
       parts = here.parts ∙ sym (append_assoc front (n ∷ []) ns);
       sets = grind (arith, met_given, same_set_equality, set_here, one_more, filter_map-append);
-      outcomes = met_given Decides-eqb n.outcome met_outcomes outcome_here
-          ∙ ap (λ ks. length (first_uses nat_eq ks))
-          (sym (ap (filter_map (λ (e : Listed Node). e.node.outcome)) one_more
-          ∙ filter_map-append (λ (e : Listed Node). e.node.outcome) (entries front)
-          (entries (n ∷ []))));
+      outcomes = grind (arith, met_given, outcome_here, one_more, filter_map-append);
     }
 
   given_after : (front ns : List Kept) (met_sets met_outcomes : ℕ)

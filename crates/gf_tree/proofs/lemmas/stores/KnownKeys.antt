@@ -13,7 +13,7 @@ use Rattle.gf_tree.proofs.lemmas.games.FirstUseNumbers.{number_at, placed}
 use Rattle.gf_tree.proofs.lemmas.games.FirstUses.{first_uses_distinct}
 use Rattle.gf_tree.proofs.lemmas.games.Lookups.{entry_at}
 use Rattle.gf_tree.proofs.lemmas.games.Members.{filter_last, has_at}
-use Rattle.gf_tree.proofs.lemmas.games.Uses.{Has, IsEquality, either_way}
+use Rattle.gf_tree.proofs.lemmas.games.Uses.{Has, IsEquality}
 
 -- ---- an item at its place
 
@@ -52,15 +52,7 @@ module _ {K : Type 0} (same : K → K → Bool) (tells : IsEquality same) where
       ≡ more_known (list_any (same key) before) (first_uses same before) key
   known_more [] key = refl
   known_more (b ∷ before) key =
-      grind (
-        arith,
-        known_more before key,
-        either_way,
-        filter-append,
-        append-nil,
-        filter_last,
-        not_from_false,
-      )
+      grind (arith, known_more before key, filter-append, append-nil, filter_last, not_from_false)
 
   -- ---- the use at a position
 

@@ -150,11 +150,8 @@ module _ (g : Game) (at : ℕ) (n : Stored) (kept : IsKeptAt g at n) where
   abbrev node : Node
   node = root_node (subtree_at g.tree at)
 
-  set_is : (k : ℕ) → n.set ≡ k → node.set ≡ option_map (λ s. s.key) (at_position g.sets k)
+  pub set_is : (k : ℕ) → n.set ≡ k → node.set ≡ option_map (λ s. s.key) (at_position g.sets k)
   set_is k e = cc kept.node
-
-  pub set_before : ¬ (n.set ≡ 0) → node.set ≡ option_map (λ s. s.key) (slice_get g.sets (n.set - 1))
-  set_before some = cc (set_is n.set refl, at_index g.sets n.set (omega (arith, some)))
 
   pub set_below : ¬ (n.set ≡ 0) → n.set - 1 < length g.sets
   set_below some = let within = kept.placed.set in omega (arith, within, some)

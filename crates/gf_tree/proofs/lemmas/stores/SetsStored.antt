@@ -161,9 +161,6 @@ module _ (players : List (List ℕ)) (entries : List Entry) (actions : List Held
     behind : from ≤ last
     behind = omega (arith, all)
 
-    ends : end_of new.1 ≤ last
-    ends = omega (arith, all)
-
     last_within : last ≤ length actions
     last_within = omega (arith, all, holds.within, holds.begun)
 
@@ -176,7 +173,7 @@ module _ (players : List (List ℕ)) (entries : List Entry) (actions : List Held
         items_until (λ (e : Entry). e.1.start) (λ (e : Entry). end_of e.1) set_made entries actions
         from last are.stretches behind last_within in
         let this : actions_of (slice_range (take last actions) new.1.start (end_of new.1))
-        ≡ actions_of (drop from actions) = grind (arith, part_until, ends, last_within) in
+        ≡ actions_of (drop from actions) = grind (arith, part_until, all, last_within) in
         cc (is, cut, map-append (described (take last actions)) entries (new ∷ []))
 
     pub view_then : stored_sets stored kept last
@@ -193,8 +190,6 @@ module _ (players : List (List ℕ)) (entries : List Entry) (actions : List Held
         → length entries + 1 < 2 ^ 32 → AreSets after stored kept last
     are_then after others own among room = record {
       stretches = rw (is, cut) (grind (arith, length-take-le, all_more, up_to));
-      numbered = rw (known_then, is) (numbered_then players after entries new
-          (map (described actions) entries) set (length-map entries (described actions))
-          are.numbered others own among);
+      numbered = grind (arith, known_then, numbered_then, length-map);
       few = omega (arith, room, ap length is, length-append entries (new ∷ []));
     }

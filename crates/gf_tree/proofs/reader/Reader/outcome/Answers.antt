@@ -1,5 +1,5 @@
-use Rattle.gf_tree.proofs.Common.{◌≡◌, ap, arith, false, Some, None, refl, rules, label_of}
-use Rattle.gf_tree.proofs.Common.{is_quoted, starts, Reader, with_node, KnownOutcomeName, NodeDue}
+use Rattle.gf_tree.proofs.Common.{◌≡◌, ap, arith, Some, None, refl, rules, label_of}
+use Rattle.gf_tree.proofs.Common.{Reader, with_node, KnownOutcomeName, NodeDue}
 use Rattle.gf_tree.proofs.Common.{begun_with, content_of}
 use Rattle.gf_token.proofs.Offered.{index_answers, index_read}
 use Rattle.gf_tree.proofs.lemmas.reader.Steps.{fails_back, lacks_memory}
@@ -41,8 +41,6 @@ returns g c =
     let told = c.in_ok-tell-2.ensures in
     let now = c.tell-2.new.self in
     let same : now.tokens ≡ c.index.new.self = ap (λ (r : Reader). r.tokens) told.kept in
-    let none : starts is_quoted now.tokens.ahead ≡ false =
-    cc (same, c.is_quoted.ensures, c.if-is_quoted.false) in
     tells (KnownOutcomeName known.outcome) {old = c.args.self.now}
     {r = record c.args.self.now { tokens = c.index.new.self }}
     refl refl (grows_none c.args.self.now.sets.known) (grows_none c.args.self.now.outcomes.known)
