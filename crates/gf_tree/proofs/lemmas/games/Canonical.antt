@@ -1,12 +1,11 @@
 -- The canonical game: it is a game, the same as the first, and there is one for all games that are
 -- the same.
 use Rattle.gf_tree.proofs.Common.{first_use_numbers, first_use_number, outcome_numbers, Decides-eqb}
-use Rattle.gf_tree.proofs.Common.{InformationSet, renumbered_set, used_outcomes, IsRenumbering, ◌≡◌}
-use Rattle.gf_tree.proofs.Common.{player_keys, Renumbering, first_uses, renumbered, HasOutcome, map}
-use Rattle.gf_tree.proofs.Common.{Described, used_sets, eqb-true, same_set, SameGame, Bool}
-use Rattle.gf_tree.proofs.Common.{sets_of, Carries, SetKey, set_of, IsGame, HasSet, nat_eq, subst}
-use Rattle.gf_tree.proofs.Common.{List, refl, Game, sym, ◌∙◌, ◌↔◌, ap, ℕ}
-use Rattle.std.proofs.Common.{filter}
+use Rattle.gf_tree.proofs.Common.{InformationSet, renumbered_set, IsRenumbering, used_outcomes, map}
+use Rattle.gf_tree.proofs.Common.{Renumbering, player_keys, HasOutcome, first_uses, renumbered, sym}
+use Rattle.gf_tree.proofs.Common.{Described, used_sets, SameGame, eqb-true, same_set, Carries, Bool}
+use Rattle.gf_tree.proofs.Common.{sets_of, HasSet, IsGame, SetKey, filter, nat_eq, set_of, subst, ℕ}
+use Rattle.gf_tree.proofs.Common.{Game, List, refl, ◌↔◌, ◌∙◌, ◌≡◌, ap}
 use Rattle.gf_tree.specs.CanonicalGame.{canonical_game}
 use Rattle.gf_tree.specs.CarriedParts.{CarriesParts}
 use Rattle.gf_tree.proofs.lemmas.stores.RenumberedKept.{outcome_image, set_image}
@@ -54,27 +53,13 @@ parts_are_renumbered r g h game game' c =
     let used = ap used_sets (sym c.tree) ∙ used_sets_of r g.tree in
     let used' = ap used_outcomes (sym c.tree) ∙ used_outcomes_of r g.tree in
     let sets =
-    carried_map
-    same_set
-    same_set_equality
-    (renumbered_set r)
-    (used_sets g.tree)
-    g.sets
-    h.sets
-    (sets_apart g r c.renumbering)
-    game.one_entry_each_set
+    carried_map same_set same_set_equality (renumbered_set r) (used_sets g.tree) g.sets h.sets
+    (sets_apart g r c.renumbering) game.one_entry_each_set
     (game'.one_entry_each_set ∙ ap (first_uses same_set) used)
     (λ k i. c.sets k (contains (used_sets g.tree) k i)) in
     let outcomes =
-    carried_map
-    nat_eq
-    Decides-eqb
-    r.outcome
-    (used_outcomes g.tree)
-    g.outcomes
-    h.outcomes
-    (outcomes_apart g r c.renumbering)
-    game.one_entry_each_outcome
+    carried_map nat_eq Decides-eqb r.outcome (used_outcomes g.tree) g.outcomes h.outcomes
+    (outcomes_apart g r c.renumbering) game.one_entry_each_outcome
     (game'.one_entry_each_outcome ∙ ap (first_uses nat_eq) used')
     (λ k i. c.outcomes k (contains (used_outcomes g.tree) k i)) in
     λ i. record {
@@ -99,8 +84,7 @@ pub set_numbers_carried : (r : Renumbering) (g h : Game) → IsGame g → IsGame
     → (player : ℕ) → map (λ key. key.number) (player_keys h player)
     ≡ map (λ key. r.set player key.number) (player_keys g player)
 set_numbers_carried r g h game game' c player =
-    ap (λ x. map (λ key. key.number) (player_keys x player))
-    (sym c.image)
+    ap (λ x. map (λ key. key.number) (player_keys x player)) (sym c.image)
     ∙ ap (λ ss. map (λ key. key.number) (map (λ s. s.key) ss))
     (filter_of_map mine mine (set_image r) g.sets (λ s i. refl))
     ∙ map_twice (λ (key : SetKey). key.number) (λ s. s.key) (map (set_image r) own)

@@ -14,15 +14,13 @@ pub of_keys : {K D : Type 0} (same : K → K → Bool) (us : List K) (es : List 
     → keys es ≡ first_uses same us → Has (keys es) k → Has us k
 of_keys same us es k q i = was_used same us k (subst (λ ks. Has ks k) q i)
 
-pub entry_used : {K D : Type 0} (same : K → K → Bool)
-    (us : List K) (es : List (Described K D)) (e : Described K D)
-    → keys es ≡ first_uses same us → Has es e → Has us e.key
+pub entry_used : {K D : Type 0} (same : K → K → Bool) (us : List K) (es : List (Described K D))
+    (e : Described K D) → keys es ≡ first_uses same us → Has es e → Has us e.key
 entry_used same us es e q i =
     of_keys same us es e.key q (has_map (λ (d : Described _ _). d.key) es e i)
 
-pub in_keys : {K D : Type 0} (same : K → K → Bool) → IsEquality same
-    → (us : List K) (es : List (Described K D)) (k : K) → keys es ≡ first_uses same us → Has us k
-    → Has (keys es) k
+pub in_keys : {K D : Type 0} (same : K → K → Bool) → IsEquality same → (us : List K)
+    (es : List (Described K D)) (k : K) → keys es ≡ first_uses same us → Has us k → Has (keys es) k
 in_keys same tells us es k q i = subst (λ ks. Has ks k) (sym q) (is_used same tells us k i)
 
 pub image_keys : {K D : Type 0} (same : K → K → Bool)
@@ -33,10 +31,9 @@ image_keys same tells f us es apart q =
     ∙ sym (map_twice f (λ e. e.key) es) ∙ ap (map f) q
     ∙ sym (first_uses_of_map same same tells tells f us apart)
 
-pub image_lookup : {K D : Type 0} (same : K → K → Bool)
-    → IsEquality same → (f : K → K) (us : List K) (es : List (Described K D)) (k : K)
-    → AreApart f us → keys es ≡ first_uses same us → Has us k
-    → description_at same (at_images f es) (f k) ≡ description_at same es k
+pub image_lookup : {K D : Type 0} (same : K → K → Bool) → IsEquality same → (f : K → K)
+    (us : List K) (es : List (Described K D)) (k : K) → AreApart f us → keys es ≡ first_uses same us
+    → Has us k → description_at same (at_images f es) (f k) ≡ description_at same es k
 image_lookup same tells f us es k apart q i = grind (arith, lookup_image, same_tests, of_keys)
 
 -- if each key and its image have the same description, one map is the other at the images

@@ -1,7 +1,6 @@
 -- What `==` says of headings and of nodes: whether they stand for the same.
-use Rattle.gf_tree.proofs.Common.{◌≡◌, Bool, None, Some, [], ◌∷◌, map, option_map}
-use Rattle.gf_tree.proofs.Common.{Decides-eqb, action_of, arith, label_of, nat_eq, pointwise}
-use Rattle.gf_tree.proofs.Common.{refl}
+use Rattle.gf_tree.proofs.Common.{Decides-eqb, option_map, action_of, pointwise, label_of, nat_eq}
+use Rattle.gf_tree.proofs.Common.{arith, Bool, None, Some, refl, map, ◌∷◌, ◌≡◌, []}
 use Rattle.std.proofs.lemmas.Iterator.Adapters.{option_map_id}
 use Rattle.std.proofs.lemmas.Slice.Eq.{slice_eq-Decides}
 use Rattle.std.specs.Bool.{Decides}

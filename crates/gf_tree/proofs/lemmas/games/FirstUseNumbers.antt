@@ -1,9 +1,8 @@
 -- Keys in order of first use, and their numbers.
-use Rattle.gf_tree.proofs.Common.{◌≡◌, ◌+◌, ◌≤◌, Bool, not, cond, List, [], ◌∷◌, ◌++◌, length, map}
-use Rattle.gf_tree.proofs.Common.{get_or, refl, sym, ap, subst, ◌∙◌, arith, inl, inr, filter}
-use Rattle.gf_tree.proofs.Common.{first_uses, cases_Bool, first_use_number}
+use Rattle.gf_tree.proofs.Common.{first_use_number, length-append, cases_Bool, first_uses, filter}
+use Rattle.gf_tree.proofs.Common.{get_or, length, arith, subst, Bool, List, cond, refl, ◌++◌, inl}
+use Rattle.gf_tree.proofs.Common.{inr, map, not, sym, ◌+◌, ◌∙◌, ◌∷◌, ◌≡◌, ◌≤◌, [], ap}
 use Rattle.std.specs.List.{position_or_len}
-use Rattle.std.proofs.Common.{length-append}
 use Rattle.std.proofs.lemmas.List.{get_or_at}
 use Rattle.std.proofs.lemmas.Bool.Decides.{same_from_decides}
 use Rattle.gf_tree.proofs.lemmas.games.Members.{filter_of_map}

@@ -1,8 +1,7 @@
 -- Keys in order of first use, and their descriptions.
-use Rattle.gf_tree.proofs.Common.{arith, ◌≡◌, Bool, true, false, not, cond, List, [], ◌∷◌, map}
-use Rattle.gf_tree.proofs.Common.{sym, ap, ◌∙◌, inl, inr, AllByRecursion, ◌⊎◌, Described}
-use Rattle.gf_tree.proofs.Common.{description_at, first_uses, Use, Describes, refl, Some}
-use Rattle.std.proofs.Common.{filter}
+use Rattle.gf_tree.proofs.Common.{AllByRecursion, description_at, first_uses, Described, Describes}
+use Rattle.gf_tree.proofs.Common.{filter, arith, false, Bool, List, Some, cond, refl, true, Use, []}
+use Rattle.gf_tree.proofs.Common.{inl, inr, map, not, sym, ◌∙◌, ◌∷◌, ◌≡◌, ◌⊎◌, ap}
 use Rattle.gf_tree.proofs.lemmas.games.Uses.{Has, IsEquality, differ}
 
 -- ---- filters

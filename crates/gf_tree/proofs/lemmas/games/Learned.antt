@@ -26,8 +26,7 @@ told_found {K} {D} same equality uses end ok keys all key d h =
     let f = found same equality end key (subst (λ ks. Has ks key) (sym keys) used) in
     let alike : f.description ≡ d =
     ok.described_alike key f.description d (each (λ s. Describes uses s.key s.description)
-    end (record { key = key; description = f.description }) all f.among)
-    h in (
+    end (record { key = key; description = f.description }) all f.among) h in (
       f.is_at ∙ ap (λ (x : D). Some x) alike,
       subst (λ x. Has end (record { key = key; description = x })) alike f.among,
     )

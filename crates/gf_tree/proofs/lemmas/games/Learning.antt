@@ -1,9 +1,8 @@
 -- What is learned use by use is what a consistent list describes.
-use Rattle.gf_tree.proofs.Common.{◌≡◌, ◌↔◌, Bool, true, List, [], ◌∷◌, ◌++◌, map}
-use Rattle.gf_tree.proofs.Common.{Some, None, Option, refl, sym, ap, subst, ◌∙◌}
-use Rattle.gf_tree.proofs.Common.{append_assoc, append-nil, inl, inr, arith, ◌⊎◌, AllByRecursion}
-use Rattle.gf_tree.proofs.Common.{Described, description_at, first_uses, Use, Learns, Describes}
-use Rattle.gf_tree.proofs.Common.{AreConsistent, map-append, same_Some}
+use Rattle.gf_tree.proofs.Common.{AllByRecursion, description_at, AreConsistent, append_assoc, Bool}
+use Rattle.gf_tree.proofs.Common.{append-nil, first_uses, map-append, Described, Describes, Learns}
+use Rattle.gf_tree.proofs.Common.{same_Some, Option, arith, subst, List, None, Some, refl, true, []}
+use Rattle.gf_tree.proofs.Common.{◌++◌, Use, inl, inr, map, sym, ◌↔◌, ◌∙◌, ◌∷◌, ◌≡◌, ◌⊎◌, ap}
 use Rattle.gf_tree.specs.Consistent.{IsDescribed, IsFirstUse}
 use Rattle.gf_tree.proofs.lemmas.games.FirstUses.{found, is_used}
 use Rattle.gf_tree.proofs.lemmas.games.Members.{all_more, in_left, in_right}
@@ -97,8 +96,7 @@ module _ {K D : Type 0} (same : K → K → Bool) (equality : IsEquality same) w
     has_told key d e = has us (told key d)
         (found_has same equality (λ k c. Describes us k c) known key d tell.2 e)
 
-    still : (u : Use K D)
-        → AllByRecursion (λ s. Describes (us ++ u ∷ []) s.key s.description) known
+    still : (u : Use K D) → AllByRecursion (λ s. Describes (us ++ u ∷ []) s.key s.description) known
     still u = all_of_each (λ s. Describes (us ++ u ∷ []) s.key s.description) known (λ s m.
         contains (us ++ u ∷ []) (told s.key s.description) (in_left us (u ∷ []) _
         (has us (told s.key s.description)

@@ -34,9 +34,8 @@ module _ {K : Type 0} (same : K → K → Bool) (tells : IsEquality same) where
       grind (arith, both_ways, has_number ks ns key (omega (arith, e)))
   has_number ks ns key e i = grind arith
 
-  pub numbers_apart : (ks : List K) (ns : List ℕ) (a b : K) → length ns ≡ length ks
-      → AreDistinct ns → Has ks a → Has ks b
-      → number_listed same ks ns a ≡ number_listed same ks ns b → a ≡ b
+  pub numbers_apart : (ks : List K) (ns : List ℕ) (a b : K) → length ns ≡ length ks → AreDistinct ns
+      → Has ks a → Has ks b → number_listed same ks ns a ≡ number_listed same ks ns b → a ≡ b
   numbers_apart (k ∷ ks) (n ∷ ns) a b e d i j h =
       grind (arith, has_number, both_ways, numbers_apart ks ns a b (omega (arith, e)) d.1)
   numbers_apart ks ns a b e d i j h = grind arith

@@ -1,7 +1,6 @@
 -- Finite maps by their look-ups.
-use Rattle.gf_tree.proofs.Common.{subst, ◌≡◌, Bool, false, List, [], ◌∷◌, map, Some}
-use Rattle.gf_tree.proofs.Common.{refl, sym, ◌∙◌, inl, inr, arith, false_from_ne_true, Described}
-use Rattle.gf_tree.proofs.Common.{description_at}
+use Rattle.gf_tree.proofs.Common.{false_from_ne_true, description_at, Described, arith, false, Bool}
+use Rattle.gf_tree.proofs.Common.{subst, List, Some, refl, inl, inr, map, sym, ◌∙◌, ◌∷◌, ◌≡◌, []}
 use Rattle.gf_tree.proofs.lemmas.games.FirstUses.{AreDistinct}
 use Rattle.gf_tree.proofs.lemmas.games.Uses.{Has, IsEquality, has_map}
 
@@ -28,8 +27,7 @@ same_map same tells [] [] q d h = refl
 same_map same tells [] (f ∷ fs) q d h = absurd cc
 same_map same tells (e ∷ es) [] q d h = absurd cc
 same_map {K} {D} same tells (e ∷ es) (f ∷ fs) q d h =
-    let others = same_map same tells es fs rest d.1
-    (grind arith) in
+    let others = same_map same tells es fs rest d.1 (grind arith) in
     λ i. record { key = first i; description = described i } ∷ others i
   where
     first : e.key ≡ f.key

@@ -15,9 +15,8 @@ map_twice f g [] = refl
 map_twice f g (x ∷ xs) = ap (λ ys. f (g x) ∷ ys) (map_twice f g xs)
 
 -- what is mapped to the same list is the same at each place
-pub beside : {X Y Z : Type 0} (f : X → Z) (g : Y → Z)
-    (xs : List X) (ys : List Y) (at : ℕ) (d : X) (e : Y) → map f xs ≡ map g ys → at < length xs
-    → f (get_or xs at d) ≡ g (get_or ys at e)
+pub beside : {X Y Z : Type 0} (f : X → Z) (g : Y → Z) (xs : List X) (ys : List Y) (at : ℕ) (d : X)
+    (e : Y) → map f xs ≡ map g ys → at < length xs → f (get_or xs at d) ≡ g (get_or ys at e)
 beside f g (x ∷ xs) (y ∷ ys) (suc at) d e h i =
     let same : map f xs ≡ map g ys = cc in beside f g xs ys at d e same (omega (arith, i))
 beside f g xs ys at d e h i = grind arith

@@ -1,12 +1,11 @@
 -- What a file means is a game that a file can hold.
 use Rattle.gf_tree.proofs.Common
-use Common.{IsOutcomeDescription, IsSpellableOutcome, IsSpellableAction, FileNode}
-use Common.{IsInformationSet, AllByRecursion, InformationSet, IsSpellableSet, IsDescription, length}
-use Common.{outcome_uses, MatchOption, cons_option, IsSpellable, Describes}
-use Common.{keys_alone, SpellsGame, IsSpelled, FileTree, set_uses, IsAction, IsResult, Sentence, []}
-use Common.{IsGameOf, Closing, flatten, Outcome, IsLabel, Option, Listed, SetKey, IsGame, ℕ}
-use Common.{IsStep, IsNode, subst, arith, Token, List, ◌++◌, Some, None, Text, Each, Game, ap}
-use Common.{◌≡◌, ◌^◌, ◌<◌, ◌∷◌, map, sym, ◌∙◌, Use}
+use Common.{IsOutcomeDescription, IsSpellableOutcome, IsSpellableAction, IsInformationSet, FileNode}
+use Common.{AllByRecursion, InformationSet, IsSpellableSet, IsDescription, outcome_uses, SpellsGame}
+use Common.{IsSpellable, MatchOption, cons_option, keys_alone, Describes, IsSpelled, FileTree, Each}
+use Common.{IsAction, IsGameOf, IsResult, Sentence, set_uses, Closing, IsLabel, Outcome, flatten, ℕ}
+use Common.{IsGame, IsNode, IsStep, Listed, Option, SetKey, length, Token, arith, subst, Game, List}
+use Common.{None, Some, Text, ◌++◌, Use, map, sym, ◌<◌, ◌^◌, ◌∙◌, ◌∷◌, ◌≡◌, [], ap}
 use Rattle.gf_fraction.proofs.Offered.{all_parts, all_mapped}
 use Rattle.gf_token.proofs.Offered.{AllSpelled, all_spelled, braced_spelled, comment_spelled}
 use Rattle.gf_tree.proofs.lemmas.games.Uses.{each, all_of_each, has}
@@ -14,9 +13,8 @@ use Rattle.gf_tree.proofs.lemmas.games.Consistent.{map_entry, flatten_map, is_ga
 
 -- what holds for each group of spelled tokens
 each_spelled : {A : Type 0} (P : List Token → A → Type 0) (Q : A → Type 0)
-    → ((tokens : List Token) (x : A) → P tokens x → AllSpelled tokens → Q x)
-    → (xs : List A) (tokens : List Token) → Each P tokens xs → AllSpelled tokens
-    → AllByRecursion Q xs
+    → ((tokens : List Token) (x : A) → P tokens x → AllSpelled tokens → Q x) → (xs : List A)
+    (tokens : List Token) → Each P tokens xs → AllSpelled tokens → AllByRecursion Q xs
 each_spelled P Q f [] tokens h all = tt
 each_spelled P Q f (x ∷ xs) tokens h all =
     let k = all_parts IsSpelled h.0 h.1 (subst AllSpelled h.2 all) in

@@ -1,12 +1,12 @@
 -- What is known at a place is what the nodes before it describe.
-use Rattle.gf_tree.proofs.lemmas.runs.Ends.{by_node}
-use Rattle.gf_tree.proofs.lemmas.runs.Ends.{none_due}
-use Rattle.gf_tree.proofs.Common.{append_assoc, IsNode}
-use Rattle.gf_tree.proofs.Common.{filter_map, Described, FileNode, Position, index_is, same_set, []}
-use Rattle.gf_tree.proofs.Common.{Content, flatten, Learns, Listed, Option}
-use Rattle.gf_tree.proofs.Common.{nat_eq, Token, arith, codes, subst, Bare, Bool, Each, List, None}
-use Rattle.gf_tree.proofs.Common.{Text, refl, zero, ◌++◌, Use, map, suc, sym, ◌∙◌, ◌∷◌, ◌≡◌, ap, ℕ}
-use Rattle.gf_token.proofs.Offered.{walks, run_after}
+use Rattle.gf_tree.proofs.lemmas.runs.Ends.{after_players, zero_is_index, Completed, nodes_end}
+use Rattle.gf_tree.proofs.lemmas.runs.Ends.{terminals, none_due, by_node}
+use Rattle.gf_tree.proofs.Common.{append_assoc, filter_map, Described, FileNode, Position, index_is}
+use Rattle.gf_tree.proofs.Common.{same_set, Content, flatten, nothing, Format, IsNode, Learns, Bare}
+use Rattle.gf_tree.proofs.Common.{Listed, Option, nat_eq, Token, arith, codes, subst, Bool, Each, ℕ}
+use Rattle.gf_tree.proofs.Common.{List, None, Text, refl, zero, ◌++◌, Use, map, suc, sym, ◌∙◌, ◌∷◌}
+use Rattle.gf_tree.proofs.Common.{◌≡◌, [], ap, at}
+use Rattle.gf_token.proofs.Offered.{run_after, walks}
 use Rattle.gf_tree.specs.Place.{IsBeforeNode, Place}
 use Rattle.gf_tree.specs.Rows.{StandsAt}
 use Rattle.gf_tree.specs.Sentence.{Says}
@@ -14,11 +14,8 @@ use Rattle.gf_tree.proofs.lemmas.games.SentencesOnce.{says_once}
 use Rattle.gf_tree.proofs.lemmas.games.TreesOnce.{uses_of_nodes}
 use Rattle.gf_tree.proofs.lemmas.places.Rows.{follows}
 use Rattle.gf_tree.proofs.lemmas.places.Steps.{position_of}
-use Rattle.gf_tree.proofs.lemmas.runs.Ends.{after_players, zero_is_index, Completed}
-use Rattle.gf_tree.proofs.lemmas.runs.Ends.{nodes_end, terminals}
 use Rattle.gf_tree.proofs.lemmas.runs.Games.{file_found}
 use Rattle.gf_tree.specs.inner.Machine.{at_end, next}
-use Rattle.gf_tree.proofs.Common.{Format, at, nothing}
 
 -- ---- terminal nodes without an outcome
 

@@ -1,19 +1,17 @@
 -- What the reader keeps still stands for the same when more is known.
 use Rattle.gf_tree.proofs.Common
-use Common.{with_pending_set, actions_counted, InformationSet}
-use Common.{description_at, OutcomeNumber, KnownOutcomes, entries_with, new_set_ends}
-use Common.{KnownSetName, outcome_with, StandsBefore, with_outcome, Decides-eqb, at_position, false}
-use Common.{with_action, option_map, length-map, actions_of, set_number, begun_with, ℕ}
-use Common.{content_of, slice_get, KnownSets, Described, Remaining, NewAction, SetNumber, set_known}
-use Common.{position, set_with, same_set, label_of, count_of, AreAmong, past_set, Outcome}
-use Common.{Position, then_run, with_set, Content, Closing, length, Option, Action, SetKey}
-use Common.{set_of, Lexeme, nat_eq, Result, Reader, placed, Memory, lexeme, Answer}
-use Common.{arith, subst, Ratio, Fault, Begun, begun, State, heard, Fails, Grows, Bool, true}
-use Common.{List, ◌++◌, Some, None, refl, ◌==◌, Game, Span, Kept, Bare, ◌≡◌, ◌+◌, ◌<◌, ◌≤◌}
-use Common.{suc, ◌∷◌, map, sym, ◌∙◌, run, Why, Err, [], ap, Ok, at}
+use Common.{get_or_from_slice_get, with_pending_set, actions_counted, InformationSet, KnownOutcomes}
+use Common.{description_at, OutcomeNumber, UnknownPlayer, player_number, slice_get-map, Decides-eqb}
+use Common.{KnownSetName, PlayerNumber, StandsBefore, entries_with, new_set_ends, outcome_with, Err}
+use Common.{with_outcome, at_position, with_action, actions_of, begun_with, content_of, length-map}
+use Common.{option_map, set_number, Described, KnownSets, NewAction, Remaining, SetNumber, AreAmong}
+use Common.{set_known, slice_get, Position, count_of, label_of, past_set, position, same_set, Begun}
+use Common.{set_with, then_run, with_set, Closing, Content, Outcome, Action, Answer, Lexeme, Memory}
+use Common.{Option, Reader, Result, SetKey, length, lexeme, nat_eq, placed, set_of, Fails, Fault, ℕ}
+use Common.{Grows, Ratio, State, arith, begun, false, heard, subst, Bare, Bool, Game, Kept, List}
+use Common.{None, Some, Span, refl, true, ◌++◌, ◌==◌, Why, map, run, suc, sym, ◌+◌, ◌<◌, ◌∙◌, ◌∷◌}
+use Common.{◌≡◌, ◌≤◌, Ok, [], ap, at}
 use Rattle.std.specs.Prelude.{OnOk, IfOk, IfNone, MatchResult}
-use Common.{get_or_from_slice_get, slice_get-map}
-use Common.{PlayerNumber, UnknownPlayer, player_number}
 use Rattle.std.proofs.lemmas.Bool.Decides.{nat_tests}
 use Rattle.gf_token.specs.Offered.{of_file}
 use Rattle.std.proofs.lemmas.List.Quantifiers.{position-Some}

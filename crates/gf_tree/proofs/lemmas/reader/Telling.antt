@@ -1,12 +1,11 @@
 -- What a reader has told of the nodes of a file, and that the machine goes on after it.
 use Rattle.gf_tree.proofs.Common
-use Common.{InformationSet, take-append-le, length-append, append_assoc, entries_with}
-use Common.{at_position, child_count, after_nodes, option_map, append-nil, entry_with, ByFirstUse}
-use Common.{begun_with, content_of, Described, with_node, told_from, told_node, AreAmong, Position}
-use Common.{Outcome, IsAmong, NodeDue, HasRead, Heading, length, Result, Lexeme}
-use Common.{SetKey, Reader, Answer, answer, Fault, heard, Grows, arith, subst, Told, List, ◌++◌, ap}
-use Common.{refl, Kept, Goes, ◌≡◌, ◌≤◌, ◌+◌, ◌-◌, ◌∷◌, max, map, Err, sym, ◌∙◌, [], Ok}
-use Common.{ℕ}
+use Common.{InformationSet, take-append-le, length-append, append_assoc, entries_with, after_nodes}
+use Common.{at_position, child_count, ByFirstUse, append-nil, begun_with, content_of, entry_with, ℕ}
+use Common.{option_map, Described, told_from, told_node, with_node, AreAmong, Position, HasRead, Ok}
+use Common.{Heading, IsAmong, NodeDue, Outcome, Answer, Lexeme, Reader, Result, SetKey, answer, Err}
+use Common.{length, Fault, Grows, arith, heard, subst, Goes, Kept, List, Told, refl, ◌++◌, map, max}
+use Common.{sym, ◌+◌, ◌-◌, ◌∙◌, ◌∷◌, ◌≡◌, ◌≤◌, [], ap}
 use Rattle.std.specs.Prelude.{OnOk}
 use Rattle.gf_tree.specs.inner.ReaderState.{GoesTelling, HasTold, IsNoLonger, ReadsTokens, Tells}
 use Rattle.gf_tree.specs.inner.ReaderState.{TellsNode, with_children, with_front}
@@ -162,8 +161,7 @@ module _ {T : Type 0} (holds : T → T → Heading → List Told → Type 0) (un
 -- ---- nodes that are kept
 
 pub kept_told : (sets : List (Described SetKey InformationSet))
-    (outcomes : List (Described ℕ Outcome))
-    (used_sets used_outcomes : ℕ) (ns : List Kept)
+    (outcomes : List (Described ℕ Outcome)) (used_sets used_outcomes : ℕ) (ns : List Kept)
     → map kept_as (told_from ByFirstUse sets outcomes used_sets used_outcomes ns) ≡ ns
 kept_told sets outcomes used_sets used_outcomes [] = refl
 kept_told sets outcomes used_sets used_outcomes (n ∷ ns) = ap (λ (ks : List Kept). n ∷ ks)

@@ -74,8 +74,7 @@ module _ {T : Type 0} {holds : T → Heading → List Told → Type 0} {bytes : 
   refused_for_memory {f} h g spells =
       answer_only bytes h.tokens f g h.spelled h.answered spells
 
-  pub refused_as_judged : {f : Fault} → IsRead holds bytes (Err f) to
-      → IsJudged f.why bytes f.span
+  pub refused_as_judged : {f : Fault} → IsRead holds bytes (Err f) to → IsJudged f.why bytes f.span
   refused_as_judged {f} h = answer_judged bytes h.tokens f h.spelled h.answered
 
 -- ---- nodes that are kept

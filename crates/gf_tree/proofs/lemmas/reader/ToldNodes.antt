@@ -1,14 +1,13 @@
 -- The nodes that a reader tells are those of the game by its first-use numbers, as a file gives
 -- them.
 use Rattle.gf_tree.proofs.Common
-use Common.{first_use_numbers, renumbered_node, InformationSet, slice_get-map, used_outcomes, subst}
-use Common.{entries_with, told_outcome, Decides-eqb, Renumbering, option_map, length-map, slice_get}
-use Common.{map-append, renumbered, file_nodes, ByFirstUse, used_sets, Described, arith}
-use Common.{told_from, same_set, known_of, AreAmong, told_set, Outcome, flatten, sets_of, game_in}
-use Common.{Content, nothing, no_node, length, filter, eq-eqb, Lexeme, Spells, SetKey, nat_eq, List}
-use Common.{IsGame, Format, OfFile, ◌++◌, take, Some, refl, ◌==◌, Game, Kept, Bool, true, ◌≡◌, suc}
-use Common.{◌+◌, ◌≤◌, ◌∷◌, map, max, sym, ◌∙◌, run, [], ap, Ok, ℕ}
-use Rattle.std.proofs.Common.{length-append}
+use Common.{first_use_numbers, renumbered_node, InformationSet, length-append, slice_get-map, arith}
+use Common.{used_outcomes, entries_with, told_outcome, Decides-eqb, Renumbering, ByFirstUse, Format}
+use Common.{file_nodes, length-map, map-append, option_map, renumbered, Described, slice_get, subst}
+use Common.{told_from, used_sets, AreAmong, known_of, same_set, told_set, Content, Outcome, flatten}
+use Common.{game_in, no_node, nothing, sets_of, IsGame, Lexeme, OfFile, SetKey, Spells, eq-eqb, map}
+use Common.{filter, length, nat_eq, Bool, Game, Kept, List, Some, refl, take, true, ◌++◌, ◌==◌, max}
+use Common.{run, suc, sym, ◌+◌, ◌∙◌, ◌∷◌, ◌≡◌, ◌≤◌, Ok, [], ap, ℕ}
 use Rattle.gf_tree.specs.inner.GameParts.{game_by}
 use Rattle.gf_tree.specs.declared.game.numbered_node.Numbering.{Numbering}
 use Rattle.gf_tree.proofs.lemmas.games.FirstUseNumbers.{number_at}

@@ -1,11 +1,10 @@
 -- Runs over the actions of a new information set in braces.
-use Rattle.gf_tree.proofs.Common.{AllByRecursion, InformationSet, OutcomeNumber, append_assoc, zero}
-use Rattle.gf_tree.proofs.Common.{with_action, append-nil, IsFraction, []}
-use Rattle.gf_tree.proofs.Common.{run_tokens, NewAction, share_of, IsAction, then_run, Ok}
-use Rattle.gf_tree.proofs.Common.{with_set, Closing, Content, AddUpTo, length, Option, Result, List}
-use Rattle.gf_tree.proofs.Common.{AddsTo, Action, set_of, shared, subst, arith, Token, ◌++◌}
-use Rattle.gf_tree.proofs.Common.{Ratio, whole, Share, begun, Some, None, refl, ◌≤ℤ◌, Each, ℕ}
-use Rattle.gf_tree.proofs.Common.{Text, Bare, ◌≡◌, suc, ◌<◌, ◌∷◌, sym, ◌∙◌, pos, Why, ap}
+use Rattle.gf_tree.proofs.Common
+use Common.{AllByRecursion, InformationSet, OutcomeNumber, append_assoc, with_action, IsFraction, ℕ}
+use Common.{append-nil, run_tokens, NewAction, IsAction, share_of, then_run, with_set, AddUpTo, Why}
+use Common.{Closing, Content, Action, AddsTo, Option, Result, length, set_of, shared, Ratio, Share}
+use Common.{Token, arith, begun, subst, whole, Bare, Each, List, None, Some, Text, refl, zero, ◌++◌}
+use Common.{◌≤ℤ◌, pos, suc, sym, ◌<◌, ◌∙◌, ◌∷◌, ◌≡◌, Ok, [], ap}
 use Rattle.gf_tree.proofs.lemmas.runs.Tokens.{Reads, run_on, ratio_is}
 use Rattle.gf_tree.proofs.lemmas.runs.Shares.{share_found, share_again, sum_high}
 

@@ -1,18 +1,17 @@
 -- Each state that the machine of the reader comes to can be completed, by tokens that can be
 -- spelled if those before can.
-use Rattle.gf_tree.proofs.Common.{whole_fraction}
 use Rattle.gf_tree.proofs.Common
-use Common.{finish, KnownOutcomeOpening, NewOutcomeOpening, KnownProbability, KnownOutcomeName}
-use Common.{KnownSetOpening, written_is_read, InformationSet, description_at, ◌≡◌}
-use Common.{outcome_number, NewProbability, NewOutcomeName, Bool, false, length-append, count_of}
-use Common.{player_number, BeforePlayers, NewSetOpening, OutcomeNumber, new_set_ends, AfterPlayers}
-use Common.{PersonalName, TerminalName, PlayerNumber, KnownSetName, with_action, KnownAction, arith}
-use Common.{KnownPayoff, number_text, IsFraction, past_label, set_number, ChanceName, NewSetName, ℕ}
-use Common.{with_node, InPlayers, SetNumber, NewAction, NewPayoff, set_known, same_set, then_run}
-use Common.{Position, past_set, Opening, Closing, Outcome, Content, Version, NodeDue, suc}
-use Common.{length, Option, Action, SetKey, set_of, shared, Format, Letter, nat_le, le-leb, codes}
-use Common.{Ratio, whole, Token, Begun, State, begun, Title, zero, true, List, Some, None, refl, []}
-use Common.{IsSpelled, ints, Text, Bare, paid, step, ◌<◌, ◌∷◌, ◌∙◌, pos, Ok, ap, at, MatchOption}
+use Common.{KnownOutcomeOpening, NewOutcomeOpening, KnownOutcomeName, KnownProbability, KnownAction}
+use Common.{KnownSetOpening, written_is_read, InformationSet, NewOutcomeName, NewProbability, Begun}
+use Common.{description_at, outcome_number, whole_fraction, BeforePlayers, NewSetOpening, InPlayers}
+use Common.{OutcomeNumber, length-append, player_number, AfterPlayers, KnownSetName, PersonalName}
+use Common.{PlayerNumber, TerminalName, new_set_ends, KnownPayoff, MatchOption, number_text, Action}
+use Common.{with_action, ChanceName, IsFraction, NewSetName, past_label, set_number, IsSpelled, pos}
+use Common.{NewAction, NewPayoff, SetNumber, set_known, with_node, Position, count_of, past_set, Ok}
+use Common.{same_set, then_run, Closing, Content, NodeDue, Opening, Outcome, Version, Format, Ratio}
+use Common.{Letter, Option, SetKey, finish, le-leb, length, nat_le, set_of, shared, State, Title, ℕ}
+use Common.{Token, arith, begun, codes, false, whole, Bare, Bool, List, None, Some, Text, ints, suc}
+use Common.{paid, refl, step, true, zero, ◌<◌, ◌∙◌, ◌∷◌, ◌≡◌, [], ap, at}
 use Rattle.gf_fraction.specs.Offered.{number_of, lowest_of, gcd_within}
 use Rattle.gf_token.specs.Offered.{index_of}
 use Rattle.gf_token.proofs.Offered.{number_spelled, AllSpelled}
@@ -142,13 +141,11 @@ module _ (Given : Type 0) where
   actions_end name key set [] sum c is some one = absurd (omega (arith, some))
   actions_end name key set (a ∷ actions) sum c is some one =
       let after = set_known c name key set in
-      by (NewAction name key set sum) c Closing (λ g. tt) after
-      (grind (arith, is))
+      by (NewAction name key set sum) c Closing (λ g. tt) after (grind (arith, is))
       (outcome_ends (begun name key set) after.content)
 
-  probability_ends : (name : List ℕ) (key : SetKey)
-      (set : InformationSet) (sum : Ratio) (label : List ℕ) (c : Content)
-      → IsShare sum → Ends (NewProbability name key set sum label) c
+  probability_ends : (name : List ℕ) (key : SetKey) (set : InformationSet) (sum : Ratio)
+      (label : List ℕ) (c : Content) → IsShare sum → Ends (NewProbability name key set sum label) c
   probability_ends name key set sum label c share =
       let rest = remainder sum share in
       let read = share_again sum rest.rest (whole (pos 1)) (number_text rest.rest) share.fraction

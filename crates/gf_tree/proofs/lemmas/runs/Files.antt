@@ -1,11 +1,10 @@
 -- Runs over all nodes of a file, in prefix order.
 use Rattle.gf_tree.proofs.Common
-use Common.{AllByRecursion, InformationSet, description_at, length-append, append_assoc, option_map}
-use Common.{outcome_uses, cons_option, HasChildren, append-nil, keys_alone}
-use Common.{run_tokens, Described, same_set, FileNode, set_uses, Outcome, Content, length}
-use Common.{NodeDue, game_in, Option, nat_eq, Listed, Learns, IsNode, SetKey, subst, arith}
-use Common.{Token, Fills, zero, List, ◌++◌, Some, refl, Bare, Each, Game, ℕ}
-use Common.{Node, ◌≡◌, suc, ◌+◌, ◌-◌, ◌<◌, ◌∷◌, map, sym, ◌∙◌, Use, []}
+use Common.{AllByRecursion, InformationSet, description_at, length-append, append_assoc, append-nil}
+use Common.{outcome_uses, HasChildren, cons_option, keys_alone, option_map, run_tokens, Described}
+use Common.{FileNode, same_set, set_uses, Content, NodeDue, Outcome, game_in, IsNode, Learns, Fills}
+use Common.{Listed, Option, SetKey, length, nat_eq, Token, arith, subst, Bare, Each, Game, List, []}
+use Common.{Node, Some, refl, zero, ◌++◌, Use, map, suc, sym, ◌+◌, ◌-◌, ◌<◌, ◌∙◌, ◌∷◌, ◌≡◌, ℕ}
 use Rattle.gf_tree.proofs.lemmas.games.Consistent.{map_entry}
 use Rattle.gf_tree.proofs.lemmas.games.TreesOnce.{same_set_equality}
 use Rattle.gf_tree.proofs.lemmas.runs.Tokens.{Reads, ok_read}

@@ -1,16 +1,14 @@
 -- What holds wherever the machine goes on: numbers that it knows are fractions, a sum of
 -- probabilities is at most one, and if a player moves, there is such a player. The labels of
 -- actions that it knows can be spelled, if the tokens can.
-use Rattle.gf_tree.proofs.Common.{whole_fraction}
 use Rattle.gf_tree.proofs.Common
-use Common.{KnownOutcomeOpening, KnownOutcomeName, KnownProbability, KnownSetOpening}
-use Common.{AllByRecursion, InformationSet, NewProbability, description_at, Closing}
-use Common.{KnownSetName, PersonalName, PlayerNumber, past_outcome, Decides-eqb, Bare}
-use Common.{KnownAction, KnownPayoff, MatchOption, NumberFault, IsFraction}
-use Common.{Described, NewAction, NewPayoff, number_is, Position, past_set}
-use Common.{same_set, share_of, Content, Outcome, Action, Option, Result, SetKey, length}
-use Common.{nat_eq, shared, Begun, Ratio, Share, State, Token, arith, List, None, Some, Text, paid}
-use Common.{IsLabel, IsSpelled, refl, step, ◌++◌, Err, Why, suc, ◌<◌, ◌∷◌, ◌≡◌, Ok, [], ℕ}
+use Common.{KnownOutcomeOpening, KnownOutcomeName, KnownProbability, KnownSetOpening, KnownSetName}
+use Common.{AllByRecursion, InformationSet, NewProbability, description_at, whole_fraction, Closing}
+use Common.{PersonalName, PlayerNumber, past_outcome, Decides-eqb, KnownAction, KnownPayoff, Action}
+use Common.{MatchOption, NumberFault, IsFraction, Described, IsSpelled, NewAction, NewPayoff, Begun}
+use Common.{number_is, Position, past_set, same_set, share_of, Content, IsLabel, Outcome, Option, ℕ}
+use Common.{Result, SetKey, length, nat_eq, shared, Ratio, Share, State, Token, arith, Bare, List}
+use Common.{None, Some, Text, paid, refl, step, ◌++◌, Err, Why, suc, ◌<◌, ◌∷◌, ◌≡◌, Ok, []}
 use Rattle.gf_fraction.specs.Offered.{number_of}
 use Rattle.gf_tree.proofs.lemmas.games.TreesOnce.{same_set_equality}
 use Rattle.gf_tree.proofs.lemmas.games.Members.{all_more}
@@ -75,10 +73,9 @@ module _ (Given : Type 0) where
     known_keeps key set fine =
         all_more (λ s. FineActions s.description.actions) c.sets (one key set) sets fine
 
-    shared_keeps : (name : List ℕ) (key : SetKey) (set : InformationSet)
-        (sum : Ratio) (label b : List ℕ) (o : Result Share Why)
-        → IsShare sum → FineActions set.actions → (Given → IsLabel label) → share_of sum b ≡ o
-        → LeadsFine (shared c name key set label o)
+    shared_keeps : (name : List ℕ) (key : SetKey) (set : InformationSet) (sum : Ratio)
+        (label b : List ℕ) (o : Result Share Why) → IsShare sum → FineActions set.actions
+        → (Given → IsLabel label) → share_of sum b ≡ o → LeadsFine (shared c name key set label o)
     shared_keeps name key set sum label b (Err why) share fine spelled e = tt
     shared_keeps name key set sum label b (Ok s) share fine spelled e =
         let h = share_found sum b s share.fraction e in

@@ -1,10 +1,9 @@
 -- Runs over the actions of a known information set in braces.
-use Rattle.gf_tree.proofs.Common.{arith, ◌≡◌, ℕ, zero, suc, List, [], ◌∷◌, ◌++◌, Some, None}
-use Rattle.gf_tree.proofs.Common.{ap, subst, append_assoc, AllByRecursion, Token, Each}
-use Rattle.gf_tree.proofs.Common.{Closing, Text, Bare, Ratio, Action, AreActions}
-use Rattle.gf_tree.proofs.Common.{IsAction, Begun, Content, at, past_label, OutcomeNumber}
-use Rattle.gf_tree.proofs.Common.{KnownAction, run_tokens, AddUpTo, whole, pos}
-use Rattle.gf_tree.proofs.Common.{refl}
+use Rattle.gf_tree.proofs.Common.{AllByRecursion, OutcomeNumber, append_assoc, KnownAction, AddUpTo}
+use Rattle.gf_tree.proofs.Common.{AreActions, past_label, run_tokens, IsAction, Closing, Content, ℕ}
+use Rattle.gf_tree.proofs.Common.{Action, Begun, Ratio, Token, arith, subst, whole, Bare, Each, pos}
+use Rattle.gf_tree.proofs.Common.{List, None, Some, Text, refl, zero, ◌++◌, suc, ◌∷◌, ◌≡◌, [], ap}
+use Rattle.gf_tree.proofs.Common.{at}
 use Rattle.gf_tree.proofs.lemmas.runs.Tokens.{Reads, refused, text_found, text_again}
 use Rattle.gf_tree.proofs.lemmas.runs.Payoffs.{number_found, number_same}
 

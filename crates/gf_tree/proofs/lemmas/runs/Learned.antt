@@ -20,10 +20,9 @@ pub learns_new : {K D : Type 0} (same : K → K → Bool)
     → Learns same known (use_of key (Some d) ∷ []) (known ++ one key d ∷ [])
 learns_new same known key d e = rw e (d, refl, refl)
 
-pub learns_again : {K D : Type 0} (same : K → K → Bool)
-    (known : List (Described K D)) (key : K) (d : D) (o : Option D)
-    → description_at same known key ≡ Some d
-    → (o ≡ None) ⊎ (o ≡ Some d) → Learns same known (use_of key o ∷ []) known
+pub learns_again : {K D : Type 0} (same : K → K → Bool) (known : List (Described K D)) (key : K)
+    (d : D) (o : Option D) → description_at same known key ≡ Some d → (o ≡ None) ⊎ (o ≡ Some d)
+    → Learns same known (use_of key o ∷ []) known
 learns_again same known key d o e h = rw e (h, refl)
 
 -- the first use of its key, which describes it; or another, with the description that is known or
@@ -72,9 +71,8 @@ kept_more : {K D : Type 0} (same : K → K → Bool) (known : List (Described K 
 kept_more same [] x key d e = absurd cc
 kept_more {K} {D} same (y ∷ known) x key d e = grind (arith, kept_more same known x key d)
 
-pub kept : {K D : Type 0} (same : K → K → Bool)
-    (us : List (Use K D)) (known end : List (Described K D))
-    → Learns same known us end → Kept same known end
+pub kept : {K D : Type 0} (same : K → K → Bool) (us : List (Use K D))
+    (known end : List (Described K D)) → Learns same known us end → Kept same known end
 kept same [] known end h key d e = ap (λ x. description_at same x key) h ∙ e
 kept {K} {D} same (u ∷ us) known end h key d e =
     by (λ x l. kept same us x end l key d) (description_at same known u.key) h

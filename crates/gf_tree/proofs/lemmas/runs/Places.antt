@@ -1,9 +1,8 @@
 -- The machine of the reader is one of those of which gf_token speaks, and it reads the extensive
 -- files.
-use Rattle.gf_tree.proofs.Common.{IsExtensiveFile, tokens_of, Position, subst}
-use Rattle.gf_tree.proofs.Common.{Content, nothing, game_in, Lexeme, Format}
-use Rattle.gf_tree.proofs.Common.{Token, State, List, ◌≡◌}
-use Rattle.gf_tree.proofs.Common.{run, ◌↔◌, Ok, at, ℕ}
+use Rattle.gf_tree.proofs.Common.{IsExtensiveFile, tokens_of, Position, Content, game_in, nothing}
+use Rattle.gf_tree.proofs.Common.{Format, Lexeme, State, Token, subst, List, run, ◌↔◌, ◌≡◌, Ok, at}
+use Rattle.gf_tree.proofs.Common.{ℕ}
 use Rattle.gf_token.specs.Offered.{walk}
 use Rattle.gf_tree.specs.inner.Machine.{at_end, next}
 use Rattle.gf_token.proofs.Offered.{IsReader, AllSpelled}

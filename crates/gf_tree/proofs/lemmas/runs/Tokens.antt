@@ -1,8 +1,7 @@
 -- What the lemmas on runs of the machine share.
-use Rattle.gf_tree.proofs.Common.{arith}
 use Rattle.gf_tree.proofs.Common.{Decides-eqb, run_tokens, same_ratio, pointwise, same_text, Result}
-use Rattle.gf_tree.proofs.Common.{then_run, Position, Content, nat_eq, Ratio, Token, State}
-use Rattle.gf_tree.proofs.Common.{Bool, true, cond, List, refl, ◌≡◌, Err, Why, Ok, ℕ, subst}
+use Rattle.gf_tree.proofs.Common.{Position, then_run, Content, nat_eq, Ratio, State, Token, arith}
+use Rattle.gf_tree.proofs.Common.{subst, Bool, List, cond, refl, true, Err, Why, ◌≡◌, Ok, ℕ}
 use Rattle.gf_token.specs.Offered as any_format
 use Rattle.gf_tree.specs.inner.Machine.{at_end, next}
 use Rattle.std.proofs.lemmas.Bool.{and_parts}

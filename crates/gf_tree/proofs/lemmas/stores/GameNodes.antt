@@ -152,9 +152,8 @@ module _ {sets : List (Described SetKey InformationSet)} {outcomes : List (Descr
 
 -- ---- a game of its parts
 
-pub shaped : (sets : List (Described SetKey InformationSet))
-    (outcomes : List (Described ℕ Outcome)) (ns : List Kept)
-    → Fills 1 (entries_with sets outcomes ns)
+pub shaped : (sets : List (Described SetKey InformationSet)) (outcomes : List (Described ℕ Outcome))
+    (ns : List Kept) → Fills 1 (entries_with sets outcomes ns)
     → counts_of (flatten (tree_with sets outcomes ns)) ≡ child_counts sets ns
 shaped sets outcomes ns h = grind (arith, counts_of, flatten_grown, counts_kept)
 

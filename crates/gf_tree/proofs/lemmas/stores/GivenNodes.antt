@@ -103,8 +103,7 @@ module _ (g : Game) (game : IsGame g) (nodes : List Kept)
   given_after : (front ns : List Kept) (met_sets met_outcomes : ℕ)
       → IsFront front ns met_sets met_outcomes → AreAmong (length g.sets) (length g.outcomes) ns
       → map (λ t. t.node) (told_from OfFile g.sets g.outcomes met_sets met_outcomes ns)
-      ≡ map (λ p. node_after g (entries front ++ p.0) p.1.node)
-      (with_those_before (entries ns))
+      ≡ map (λ p. node_after g (entries front ++ p.0) p.1.node) (with_those_before (entries ns))
   given_after front [] met_sets met_outcomes here placed = refl
   given_after front (n ∷ ns) met_sets met_outcomes here placed =
       let node = node_here front n ns met_sets met_outcomes here placed.0 in

@@ -1,14 +1,12 @@
 -- Which keys are known after some uses, and what the next use says.
-use Rattle.gf_tree.proofs.Common.{◌≡◌, ℕ, zero, suc, ◌+◌, ◌<◌, Bool, true, false, List, [], ◌∷◌}
-use Rattle.gf_tree.proofs.Common.{◌++◌, length, map, Some, slice_get, max, refl, sym, ap, ◌∙◌}
-use Rattle.gf_tree.proofs.Common.{arith, ◌==◌, eq-eqb, slice_get-map, Described, description_at}
-use Rattle.gf_tree.proofs.Common.{first_uses, filter, not, append_assoc, filter-append}
-use Rattle.gf_tree.proofs.Common.{not_from_false, first_use_number, use_after, use_with}
-use Rattle.std.proofs.Common.{length-append}
+use Rattle.gf_tree.proofs.Common.{first_use_number, description_at, not_from_false, filter-append}
+use Rattle.gf_tree.proofs.Common.{length-append, slice_get-map, append_assoc, append-nil, Described}
+use Rattle.gf_tree.proofs.Common.{first_uses, slice_get, use_after, use_with, eq-eqb, filter, arith}
+use Rattle.gf_tree.proofs.Common.{length, false, Bool, List, Some, refl, true, zero, ◌++◌, ◌==◌, []}
+use Rattle.gf_tree.proofs.Common.{map, max, not, suc, sym, ◌+◌, ◌<◌, ◌∙◌, ◌∷◌, ◌≡◌, ap, ℕ}
 use Rattle.std.specs.List.{list_any}
 use Rattle.std.proofs.Math.Nat.{max-eq_left}
 use Rattle.std.proofs.lemmas.Bool.{ne_eqb}
-use Rattle.std.proofs.lemmas.List.{append-nil}
 use Rattle.gf_tree.proofs.lemmas.games.FirstUseNumbers.{number_at, placed}
 use Rattle.gf_tree.proofs.lemmas.games.FirstUses.{first_uses_distinct}
 use Rattle.gf_tree.proofs.lemmas.games.Lookups.{entry_at}

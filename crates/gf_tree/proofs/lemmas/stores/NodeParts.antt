@@ -1,28 +1,26 @@
 -- The parts of a node as it is kept: who moves there, its actions, and the place after its subtree.
-use Rattle.gf_tree.proofs.Common.{length-map}
-use Rattle.gf_tree.proofs.lemmas.stores.GameNodes.{sizes_beside}
 use Rattle.gf_tree.proofs.Common
-use Common.{get_or_from_slice_get, position_from-zero, slice_get_within, length}
-use Common.{outcome_numbers, InformationSet, position_from, slice_get-map, subtree_sizes, slice_get}
-use Common.{used_outcomes, number_among, subtrees_all, Decides-eqb, at_position, subst}
-use Common.{child_trees, option_map, subtree_at, same_Some, Described, game_with, tree_with, get_or}
-use Common.{root_node, position, drop-map, known_of, AreNodes, subtrees, flatten, Outcome}
-use Common.{IsAmong, kept_of, skipped, branch, Stored, Action, SetKey, set_of, IsGame, set_at, zero}
-use Common.{nat_eq, arith, Parts, Begin, List, drop, take, Some, refl, Tree, ◌≡◌}
-use Common.{more, Game, Node, suc, ◌+◌, ◌-◌, ◌<◌, ◌≤◌, ◌∷◌, map, sym, ◌∙◌, [], ap, ℕ}
-use Rattle.std.proofs.lemmas.List.{append-nil, drop-drop}
+use Common.{get_or_from_slice_get, position_from-zero, slice_get_within, outcome_numbers, Described}
+use Common.{InformationSet, position_from, slice_get-map, subtree_sizes, used_outcomes, Decides-eqb}
+use Common.{number_among, subtrees_all, at_position, child_trees, append-nil, length-map, game_with}
+use Common.{option_map, subtree_at, root_node, same_Some, slice_get, tree_with, AreNodes, drop-map}
+use Common.{known_of, position, subtrees, IsAmong, Outcome, flatten, kept_of, skipped, Action, Game}
+use Common.{IsGame, SetKey, Stored, branch, get_or, length, nat_eq, set_at, set_of, Begin, Parts, ℕ}
+use Common.{arith, subst, List, Node, Some, Tree, drop, more, refl, take, zero, map, suc, sym, ◌+◌}
+use Common.{◌-◌, ◌<◌, ◌∙◌, ◌∷◌, ◌≡◌, ◌≤◌, [], ap}
+use Rattle.gf_tree.proofs.lemmas.stores.GameNodes.{child_is_there, children_there, placed_there}
+use Rattle.gf_tree.proofs.lemmas.stores.GameNodes.{sizes_beside, node_there, IsTreeOf}
+use Rattle.std.proofs.lemmas.List.{drop-drop}
 use Rattle.gf_tree.specs.inner.GameParts.{IsKeptAt}
 use Rattle.gf_tree.specs.Movers.{IsMover}
 use Rattle.gf_tree.specs.OutcomePositions.{position_among}
-use Rattle.gf_tree.proofs.lemmas.games.FirstUses.{AreDistinct, first_uses_distinct}
-use Rattle.gf_tree.proofs.lemmas.stores.GameNodes.{IsTreeOf, child_is_there}
-use Rattle.gf_tree.proofs.lemmas.stores.GameNodes.{children_there, node_there, placed_there}
+use Rattle.gf_tree.proofs.lemmas.games.FirstUses.{first_uses_distinct, AreDistinct}
 use Rattle.gf_tree.proofs.lemmas.stores.Places.{at_index}
 use Rattle.gf_tree.proofs.lemmas.games.Lookups.{entry_at}
 use Rattle.gf_tree.proofs.lemmas.games.TreesOnce.{same_set_equality}
 use Rattle.gf_tree.proofs.lemmas.stores.RenumberedStores.{is_among}
-use Rattle.gf_tree.proofs.lemmas.stores.SubtreeSizes.{begin_first, stands, subtrees_counted}
-use Rattle.gf_tree.proofs.lemmas.games.Members.{has_at, something_there}
+use Rattle.gf_tree.proofs.lemmas.stores.SubtreeSizes.{subtrees_counted, begin_first, stands}
+use Rattle.gf_tree.proofs.lemmas.games.Members.{something_there, has_at}
 
 from_there : {A : Type 0} (xs : List A) (k : ℕ) (x : A) → slice_get xs k ≡ Some x
     → drop k xs ≡ x ∷ drop (k + 1) xs

@@ -1,16 +1,14 @@
 -- What is stored of outcomes, and what it says about those that are known.
 use Rattle.gf_tree.proofs.lemmas.games.Members.{all_more}
-use Rattle.gf_tree.proofs.lemmas.stores.Stretching.{up_to}
-use Rattle.gf_tree.proofs.Common.{◌≡◌, ℕ, ◌+◌, ◌<◌, ◌^◌, List, [], ◌∷◌, ◌++◌, length, map, drop}
-use Rattle.gf_tree.proofs.Common.{arith, Ratio, label_of, Outcome, Described, drop-append-le}
-use Rattle.gf_tree.proofs.Common.{KnownOutcomes, stored_outcomes, AreOutcomes, refl, ap, ◌∙◌}
-use Rattle.gf_tree.proofs.Common.{at_position, option_map, slice_get, slice_get-map, ◌-◌}
-use Rattle.std.proofs.Common.{length-append}
+use Rattle.gf_tree.proofs.lemmas.stores.Stretching.{items_after, up_to}
+use Rattle.gf_tree.proofs.Common.{stored_outcomes, drop-append-le, KnownOutcomes, length-append, []}
+use Rattle.gf_tree.proofs.Common.{slice_get-map, AreOutcomes, at_position, option_map, Described, ℕ}
+use Rattle.gf_tree.proofs.Common.{slice_get, label_of, Outcome, length, Ratio, arith, List, drop}
+use Rattle.gf_tree.proofs.Common.{refl, ◌++◌, map, ◌+◌, ◌-◌, ◌<◌, ◌^◌, ◌∙◌, ◌∷◌, ◌≡◌, ap}
 use Rattle.std.specs.Map.{keys_of}
 use Rattle.gf_tree.specs.declared.game.outcomes.StoredOutcome.{StoredOutcome}
 use Rattle.gf_tree.specs.inner.StoredOutcomes.{described, end_of}
 use Rattle.gf_tree.proofs.lemmas.stores.Places.{at_index}
-use Rattle.gf_tree.proofs.lemmas.stores.Stretching.{items_after}
 
 abbrev Entry : Type 0
 Entry = ℕ × StoredOutcome
@@ -54,8 +52,7 @@ module _ (entries : List Entry) (payoffs : List Ratio) (from : ℕ)
 
     -- one more outcome, with the payoffs from here on
     pub outcome_stored : (new : Entry) (stored : List Entry) (last : ℕ)
-        → stored ≡ entries ++ new ∷ []
-        → last ≡ length payoffs → new.1.start ≡ from → end_of new.1 ≡ last
-        → length entries + 1 < 2 ^ 32 → AreOutcomes stored payoffs last
+        → stored ≡ entries ++ new ∷ [] → last ≡ length payoffs → new.1.start ≡ from
+        → end_of new.1 ≡ last → length entries + 1 < 2 ^ 32 → AreOutcomes stored payoffs last
     outcome_stored new stored last is all starts ends room =
         grind (arith, all_more, up_to, length-append)

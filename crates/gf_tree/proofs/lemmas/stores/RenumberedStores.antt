@@ -23,9 +23,8 @@ use Rattle.gf_tree.proofs.lemmas.games.Members.{all_more, has_at, something_ther
 
 -- ---- a key that has not stood yet
 
-absent_from : {K : Type 0} (same : K → K → Bool) → IsEquality same
-    → (key : K) (ks : List K) (start : ℕ)
-    → (Has ks key → ⊥) → position_from (same key) start ks ≡ None
+absent_from : {K : Type 0} (same : K → K → Bool) → IsEquality same → (key : K) (ks : List K)
+    (start : ℕ) → (Has ks key → ⊥) → position_from (same key) start ks ≡ None
 absent_from same tells key [] start h = refl
 absent_from same tells key (k ∷ ks) start h =
     grind (arith, absent_from same tells key ks (start + 1) (λ m. h (inr m)), false_from_ne_true)
@@ -72,9 +71,8 @@ pub record IsAmong (known : List (Described SetKey InformationSet)) (place playe
   pub stands : slice_get (known_of player known) before ≡ Some s
 
 among_more : (t : Described SetKey InformationSet) (known : List (Described SetKey InformationSet))
-    (place player : ℕ) (s : Described SetKey InformationSet)
-    → IsAmong known place player s → (b : Bool) → (t.key.player == player) ≡ b
-    → IsAmong (t ∷ known) (suc place) player s
+    (place player : ℕ) (s : Described SetKey InformationSet) → IsAmong known place player s
+    → (b : Bool) → (t.key.player == player) ≡ b → IsAmong (t ∷ known) (suc place) player s
 among_more t known place player s r true q =
     record { before = suc r.before; counted = rw q (ap suc r.counted); stands = rw q r.stands }
 among_more t known place player s r false q = grind arith

@@ -85,18 +85,15 @@ below_then entries greatest new stored last all is most = rw is (by entries all)
 -- ---- one more set among those that are known
 
 at_last : {A : Type 0} (xs : List A) (x : A) (place : ℕ)
-    → slice_get (xs ++ x ∷ []) place
-    ≡ (if place == length xs then Some x else slice_get xs place)
+    → slice_get (xs ++ x ∷ []) place ≡ (if place == length xs then Some x else slice_get xs place)
 at_last (y ∷ xs) x (suc place) = at_last xs x place ∙ grind arith
 at_last xs x place = grind arith
 
 module _ (players after : List (List ℕ)) (entries : List Entry) (new : Entry)
     (known : List (Described SetKey InformationSet)) (set : Described SetKey InformationSet)
-    (as_many : length known ≡ length entries)
-    (are : AreNumbered players entries known)
+    (as_many : length known ≡ length entries) (are : AreNumbered players entries known)
     (others : (other : ℕ) → other ≢ set.key.player
-    → get_or after other [] ≡ get_or players other [])
-    (own : get_or after set.key.player []
+    → get_or after other [] ≡ get_or players other []) (own : get_or after set.key.player []
     ≡ get_or players set.key.player [] ++ set.key.number ∷ [])
     (among : new.1.among ≡ length (get_or players set.key.player []) + 1) where
   numbers_then : (player : ℕ) → get_or after player []

@@ -22,19 +22,16 @@ module _ {E T : Type 0} (start end : E → ℕ) where
   abbrev pub made : {D : Type 0} → (E → List T → D) → List T → E → D
   made make items e = make e (slice_range items (start e) (end e))
 
-  same_made : {D : Type 0} (make : E → List T
-      → D) (entries : List E) (items more : List T) (from : ℕ)
-      → AllByRecursion (Ends start end from) entries
-      → from ≤ length items → map (made make (items ++ more)) entries
-      ≡ map (made make items) entries
+  same_made : {D : Type 0} (make : E → List T → D) (entries : List E) (items more : List T)
+      (from : ℕ) → AllByRecursion (Ends start end from) entries → from ≤ length items
+      → map (made make (items ++ more)) entries ≡ map (made make items) entries
   same_made make [] items more from all within = refl
   same_made make (e ∷ es) items more from all within =
       grind (arith, same_part, same_made make es items more from all.1 within)
 
   -- items after them change nothing in it
-  pub items_after : {D : Type 0} (make : E → List T
-      → D) (entries : List E) (items more : List T) (from : ℕ)
-      → AreStretches start end entries items from
+  pub items_after : {D : Type 0} (make : E → List T → D) (entries : List E) (items more : List T)
+      (from : ℕ) → AreStretches start end entries items from
       → map (made make (items ++ more)) entries ≡ map (made make items) entries
   items_after make entries items more from are = grind (arith, same_made)
 

@@ -1,12 +1,10 @@
 -- The sizes of subtrees, and what they skip.
-use Rattle.gf_tree.proofs.Common.{subtree_sizes, append_assoc, subtrees_all, flatten_all, slice_get}
-use Rattle.gf_tree.proofs.Common.{sizes_grown, length-map, map-append, drop-map, zero-add, subtrees}
-use Rattle.gf_tree.proofs.Common.{flatten, skipped, list_of, length, get_or, branch, Listed, arith}
-use Rattle.gf_tree.proofs.Common.{Trees, count, Begin, zero, List, ◌++◌, drop, refl, Tree, none, []}
-use Rattle.gf_tree.proofs.Common.{more, ◌≡◌, suc, ◌+◌, ◌<◌, ◌≤◌, ◌∷◌, map, sym, ◌∙◌, ap, ℕ}
-use Rattle.std.proofs.Common.{length-append}
+use Rattle.gf_tree.proofs.Common
+use Common.{length-append, subtree_sizes, append_assoc, subtrees_all, flatten_all, sizes_grown, map}
+use Common.{append-nil, length-map, map-append, slice_get, drop-map, subtrees, zero-add, flatten, ℕ}
+use Common.{list_of, skipped, Listed, branch, get_or, length, Begin, Trees, arith, count, List, suc}
+use Common.{Tree, drop, more, none, refl, zero, ◌++◌, sym, ◌+◌, ◌<◌, ◌∙◌, ◌∷◌, ◌≡◌, ◌≤◌, [], ap}
 use Rattle.std.proofs.Math.Seq.{drop-append_seam}
-use Rattle.std.proofs.lemmas.List.{append-nil}
 use Rattle.gf_tree.specs.GrowsAgain.{join}
 
 abbrev size_of : {N : Type 0} → Tree N → ℕ
@@ -122,8 +120,7 @@ mutual
         map-append (λ e. e.children) (flatten t) (flatten_all ts),
         append_assoc (counts_of (flatten t)) (counts_of (flatten_all ts)) cs,
         append_assoc (subtrees t) (subtrees_all ts) ss,
-      )
-      (grown_tree t (subtrees_all ts ++ ss) (counts_of (flatten_all ts) ++ cs)
+      ) (grown_tree t (subtrees_all ts ++ ss) (counts_of (flatten_all ts) ++ cs)
       (grown_trees ts ss cs e))
 
 pub sizes_are : {N : Type 0} (t : Tree N) → sizes_grown (counts_of (flatten t)) ≡ subtree_sizes t
@@ -219,5 +216,4 @@ begin_children ts us =
     rw (
       map-append (λ e. e.children) (flatten_all ts) (flatten_all us),
       grown_trees ts (subtrees_all us) (counts_of (flatten_all us)) others,
-    )
-    (begin_first (count ts) ts (subtrees_all us) (omega arith))
+    ) (begin_first (count ts) ts (subtrees_all us) (omega arith))

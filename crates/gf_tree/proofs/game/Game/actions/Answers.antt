@@ -1,8 +1,6 @@
-use Rattle.gf_tree.proofs.lemmas.stores.NodeParts.{set_is}
+use Rattle.gf_tree.proofs.lemmas.stores.NodeParts.{actions_there, set_below, set_is}
 use Rattle.gf_tree.proofs.lemmas.stores.Places.{at_index}
 use Rattle.gf_tree.proofs.lemmas.games.Members.{something_there}
-use Rattle.gf_tree.proofs.lemmas.stores.NodeParts.{actions_there}
-use Rattle.gf_tree.proofs.lemmas.stores.NodeParts.{set_below}
 use Rattle.gf_tree.proofs.Common.{arith}
 
 pub returns : Rattle.gf_tree.proofs.game.Game.actions.Goals.returns

@@ -8,9 +8,8 @@ add_set-requires-clause-absent c =
     set_absent c.args.self.now (its_game _ _ c.self.invariant.is_game c.self.view_is)
     (map (λ own. own.items) c.args.sets.now) c.requires.0 c.requires.1
     c.self.inside.parts.sets.known c.loop-place.renumbered.known c.loop-place.place
-    c.listed_number-number.result
-    (ap (λ (g : Game). g.sets) c.self.view_is) c.loop-place.invariant.0
-    (omega (
+    c.listed_number-number.result (ap (λ (g : Game). g.sets) c.self.view_is)
+    c.loop-place.invariant.0 (omega (
       arith,
       c.loop-place-test.true,
       c.len-place-end.ensures.len,
@@ -22,9 +21,8 @@ loop-place-preserved c =
     set_added c.args.self.now (its_game _ _ c.self.invariant.is_game c.self.view_is)
     (map (λ own. own.items) c.args.sets.now) c.requires.0 c.requires.1
     c.self.inside.parts.sets.known c.loop-place.renumbered.known c.add_set.new.to.known
-    c.loop-place.place c.listed_number-number.result
-    (ap (λ (g : Game). g.sets) c.self.view_is) c.loop-place.invariant.0
-    (omega (
+    c.loop-place.place c.listed_number-number.result (ap (λ (g : Game). g.sets) c.self.view_is)
+    c.loop-place.invariant.0 (omega (
       arith,
       c.loop-place-test.true,
       c.len-place-end.ensures.len,

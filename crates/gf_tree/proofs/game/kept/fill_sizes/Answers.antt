@@ -1,5 +1,4 @@
-use Rattle.gf_tree.proofs.Common.{◌-◌, arith}
-use Rattle.gf_tree.proofs.Common.{sizes_of}
+use Rattle.gf_tree.proofs.Common.{sizes_of, arith, ◌-◌}
 use Rattle.std.proofs.Math.ListN.{length-set}
 use Rattle.std.proofs.Math.Seq.{map-set_same}
 use Rattle.gf_tree.proofs.lemmas.stores.KeptSizes.{filled_more, set_placed}

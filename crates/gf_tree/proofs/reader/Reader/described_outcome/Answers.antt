@@ -19,6 +19,5 @@ returns g c =
     let known = c.in-Some.ensures.known in
     tells_again (KnownOutcomeName known.outcome) c.args.self.now c.tell.new.self
     c.outcome_again.new.self _ c.outcome_again.result
-    (record { set = c.requires.set; outcome = known.within })
-    c.in_ok-tell.ensures (search rules) c.outcome_again.ensures.read
-    (c.outcome_again.ensures.machine _ known.outcome (search rules))
+    (record { set = c.requires.set; outcome = known.within }) c.in_ok-tell.ensures (search rules)
+    c.outcome_again.ensures.read (c.outcome_again.ensures.machine _ known.outcome (search rules))

@@ -4,8 +4,7 @@ use Rattle.gf_tree.proofs.lemmas.reader.Steps.{fails_back, lacks_memory}
 use Rattle.gf_tree.proofs.lemmas.reader.Telling.{grows_same, reads_none, shorter_by, tells}
 use Rattle.gf_tree.proofs.reader.Reader.end_outcome.Goals as goal
 
-pub returns-in_default-keep_outcome :
-    goal.returns-in_default-keep_outcome
+pub returns-in_default-keep_outcome : goal.returns-in_default-keep_outcome
 returns-in_default-keep_outcome g c =
     lacks_memory c.in-Some.ensures.place c.at.ensures NodeDue
     (with_node (with_outcome (content_of c.args.self.now) c.args.number
@@ -31,8 +30,7 @@ returns g c =
     (ap (λ (r : Reader). r.told_outcomes) kept)
     (grows_same (sym (ap (λ (r : Reader). r.sets.known) kept))) c.in-Ok.ensures.grows
     (record { set = search rules; outcome = omega (arith, c.in-Ok.ensures.place) })
-    c.in_ok-tell.ensures (search rules) reads_none refl (ap (λ (r : Reader). r.due) kept)
-    (omega (
+    c.in_ok-tell.ensures (search rules) reads_none refl (ap (λ (r : Reader). r.due) kept) (omega (
       arith,
       shorter_by c.in-Some.ensures.next,
       ap (λ (r : Reader). length r.tokens.ahead) kept,

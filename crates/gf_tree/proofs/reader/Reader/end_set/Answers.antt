@@ -7,9 +7,8 @@ returns-in-Ok-clause-machine c = λ node.
     set_end (content_of c.args.self.now) (content_of c.keep_set.new.self) node c.args.player
     c.args.number (label_of c.args.name) c.args.self.now.sets.pending c.args.sum _ _
     c.args.self.now.tokens c.closing.new.self c.keep_set.new.self.tokens c.pending.result.now _
-    (taken c.in-Some.ensures.next c.in-Some.ensures.input)
-    c.if-is_empty.ensures c.pending.ensures c.if-not-adds_up.ensures
-    c.in-Ok.ensures.content (c.in-Ok.ensures.begins node)
+    (taken c.in-Some.ensures.next c.in-Some.ensures.input) c.if-is_empty.ensures c.pending.ensures
+    c.if-not-adds_up.ensures c.in-Ok.ensures.content (c.in-Ok.ensures.begins node)
     (ap (λ (r : Reader). r.tokens) c.in-Ok.ensures.kept)
 
 pub returns-in-Err-clause-machine : goal.returns-in-Err-clause-machine

@@ -25,8 +25,7 @@ returns r c =
       tokens = c.args.self.now.tokens.ahead;
       spelled = c.requires.spelled;
       answered = read_whole (r.R.Receive.holds c.args.to.now) c.args.self.now.tokens.input
-          c.args.self.now.tokens.ahead c.begin.new.self c.nodes.new.self c.nodes.new.to
-          (record {
+          c.args.self.now.tokens.ahead c.begin.new.self c.nodes.new.self c.nodes.new.to (record {
             goes = (cc)
                 ∙ c.in_ok-last.ensures.machine;
             sets = ap (λ (k : Reader). k.sets.known) read

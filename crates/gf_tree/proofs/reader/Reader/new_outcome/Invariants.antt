@@ -6,8 +6,7 @@ use Rattle.gf_tree.proofs.reader.Reader.new_outcome.Given as goal
 abbrev pub invariant-loop-left : goal.invariant-loop-left
 invariant-loop-left g l = record {
   goes : answer (NewOutcomeName
-      (begun_with l.fn.self.sets.known (label_of l.node) l.set) l.number)
-      l.fn.self
+      (begun_with l.fn.self.sets.known (label_of l.node) l.set) l.number) l.fn.self
       ≡ answer (NewPayoff false (begun_with l.fn.self.sets.known (label_of l.node) l.set)
       l.number (outcome_with (label_of l.name.label) l.self.outcomes.pending) l.left)
       l.self;

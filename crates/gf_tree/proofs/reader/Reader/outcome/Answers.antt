@@ -1,6 +1,5 @@
-use Rattle.gf_tree.proofs.Common.{◌≡◌, ap, arith, Some, None, refl, rules, label_of}
-use Rattle.gf_tree.proofs.Common.{Reader, with_node, KnownOutcomeName, NodeDue}
-use Rattle.gf_tree.proofs.Common.{begun_with, content_of}
+use Rattle.gf_tree.proofs.Common.{KnownOutcomeName, begun_with, content_of, with_node, label_of, ap}
+use Rattle.gf_tree.proofs.Common.{NodeDue, Reader, arith, rules, None, Some, refl, ◌≡◌}
 use Rattle.gf_token.proofs.Offered.{index_answers, index_read}
 use Rattle.gf_tree.proofs.lemmas.reader.Steps.{fails_back, lacks_memory}
 use Rattle.gf_tree.proofs.lemmas.reader.Telling.{grows_none, reads_none, shorter_by, tells}

@@ -1,5 +1,4 @@
-use Rattle.gf_tree.proofs.Common.{arith}
-use Rattle.std.proofs.Common.{length-drop}
+use Rattle.gf_tree.proofs.Common.{length-drop, arith}
 use Rattle.gf_tree.proofs.lemmas.stores.GameNodes.{nodes_counted}
 
 pub returns : Rattle.gf_tree.proofs.game.nodes.NodesExactSizeIterator.len.Goals.returns
