@@ -4,7 +4,7 @@ use Common.{InformationSet, take-append-le, length-append, append_assoc, entries
 use Common.{at_position, child_count, ByFirstUse, append-nil, begun_with, content_of, entry_with, ℕ}
 use Common.{option_map, Described, told_from, told_node, with_node, AreAmong, Position, HasRead, Ok}
 use Common.{Heading, IsAmong, NodeDue, Outcome, Answer, Lexeme, Reader, Result, SetKey, answer, Err}
-use Common.{length, Fault, Grows, arith, heard, subst, Goes, Kept, List, Told, refl, ◌++◌, map, max}
+use Common.{length, Fault, Grows, arith, heard, Goes, Kept, List, Told, refl, ◌++◌, map, max}
 use Common.{sym, ◌+◌, ◌-◌, ◌∙◌, ◌∷◌, ◌≡◌, ◌≤◌, [], ap}
 use Rattle.std.specs.Prelude.{OnOk}
 use Rattle.gf_tree.specs.inner.ReaderState.{GoesTelling, HasTold, IsNoLonger, ReadsTokens, Tells}
@@ -141,9 +141,7 @@ module _ {T : Type 0} (holds : T → T → Heading → List Told → Type 0) (un
       (nodes ++ h.node ∷ [])
   told_one_more {old} {new} {from} {to} {nodes} {before} {set} k h = record {
     placed = grind (arith, placed_one_more, placed_among_more, grows_length);
-    told = subst (holds untold to heading) (sym (grind (arith, told_more)))
-        (h.told untold heading (told_from ByFirstUse new.sets.known new.outcomes.known 0 0 nodes)
-        (subst (holds untold from heading) (sym (grind (arith, told_stays))) k.told));
+    told = grind (arith, told_more, told_stays);
     told_sets = cc (h.told_sets, k.told_sets, sets_more h.node 0 nodes);
     told_outcomes = cc (h.told_outcomes, k.told_outcomes, outcomes_more h.node 0 nodes);
   }

@@ -60,9 +60,7 @@ nodes_more ts due c r is h k =
       comment = k.comment;
       players = k.players;
       nodes = k.nodes ∙ append_assoc c.nodes (map_entry keys_alone entry ∷ []) (alone k.entries);
-      learns_sets =
-          rw (← more_uses h.node.set (set_uses k.entries)) (learns_on same_set (uses_of h.node.set)
-          (set_uses k.entries) c.sets h.sets r.sets h.learns_sets k.learns_sets);
+      learns_sets = grind (arith, more_uses, learns_on, uses_of);
       learns_outcomes = rw (← more_uses h.node.outcome (outcome_uses k.entries)) (learns_on nat_eq
           (uses_of h.node.outcome) (outcome_uses k.entries) c.outcomes h.outcomes r.outcomes
           h.learns_outcomes k.learns_outcomes);

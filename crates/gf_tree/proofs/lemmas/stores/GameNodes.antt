@@ -75,8 +75,7 @@ pub child_is_there : {N : Type 0} (t : Tree N) (at i : ℕ)
 child_is_there {N} t at i h j =
     let r = stands t at (rw (← subtrees_counted t) h) in
     let here = r.stands.trees in
-    let tree : subtree_at t at ≡ branch r.node r.below = get_or_from_drop (subtrees t)
-    (subtrees_all r.below ++ subtrees_all r.others) at (branch r.node r.below) t here in
+    let tree : subtree_at t at ≡ branch r.node r.below = grind (arith, get_or_from_drop) in
     let behind : drop (suc at) (subtrees t) ≡ subtrees_all r.below ++ subtrees_all r.others =
     drop_suc (subtrees t) (subtrees_all r.below ++ subtrees_all r.others) at (branch r.node r.below)
     here in

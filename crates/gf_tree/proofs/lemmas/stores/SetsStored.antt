@@ -168,7 +168,7 @@ module _ (players : List (List ℕ)) (entries : List Entry) (actions : List Held
     known_then =
         let those : map (described (take last actions)) entries ≡ map (described actions) entries =
         items_until (λ (e : Entry). e.1.start) (λ (e : Entry). end_of e.1) set_made entries actions
-        from last are.stretches behind last_within in
+        from last are.stretches behind (omega (arith, all, holds.within, holds.begun)) in
         let this : actions_of (slice_range (take last actions) new.1.start (end_of new.1))
         ≡ actions_of (drop from actions) = grind (arith, part_until, all, last_within) in
         cc (is, cut, map-append (described (take last actions)) entries (new ∷ []))

@@ -1,5 +1,5 @@
-use Rattle.gf_tree.proofs.Common.{KnownOutcomeName, begun_with, content_of, with_node, label_of, ap}
-use Rattle.gf_tree.proofs.Common.{NodeDue, Reader, arith, rules, None, Some, refl, ◌≡◌}
+use Rattle.gf_tree.proofs.Common.{KnownOutcomeName, begun_with, content_of, with_node, label_of}
+use Rattle.gf_tree.proofs.Common.{NodeDue, arith, rules, None, Some, refl}
 use Rattle.gf_token.proofs.Offered.{index_answers, index_read}
 use Rattle.gf_tree.proofs.lemmas.reader.Steps.{fails_back, lacks_memory}
 use Rattle.gf_tree.proofs.lemmas.reader.Telling.{grows_none, reads_none, shorter_by, tells}
@@ -39,7 +39,6 @@ returns g c =
     let known = c.in-Some-known_outcome.ensures.known in
     let told = c.in_ok-tell-2.ensures in
     let now = c.tell-2.new.self in
-    let same : now.tokens ≡ c.index.new.self = ap (λ (r : Reader). r.tokens) told.kept in
     tells (KnownOutcomeName known.outcome) {old = c.args.self.now}
     {r = record c.args.self.now { tokens = c.index.new.self }}
     refl refl (grows_none c.args.self.now.sets.known) (grows_none c.args.self.now.outcomes.known)
