@@ -5,6 +5,5 @@ pub(crate) mod digits;
 pub(crate) mod first;
 pub(crate) mod labels;
 pub(crate) mod level;
-pub(crate) mod spare;
 pub(crate) mod survey;
 pub(crate) mod visits;

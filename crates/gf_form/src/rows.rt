@@ -12,7 +12,6 @@ pub(crate) mod paying;
 pub(crate) mod profile;
 pub(crate) mod share;
 pub(crate) mod shares;
-pub(crate) mod spare;
 pub(crate) mod summed;
 pub(crate) mod sums;
 pub(crate) mod terms;

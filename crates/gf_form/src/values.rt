@@ -7,5 +7,4 @@ pub(crate) mod nodes;
 pub(crate) mod payoffs;
 pub(crate) mod positions;
 pub(crate) mod rows;
-pub(crate) mod spare;
 pub(crate) mod walk;

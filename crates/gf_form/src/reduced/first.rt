@@ -16,7 +16,6 @@ ghost use Rattle.gf_form.specs.Strategies.{action_counts, players_of, strategies
 use crate::reduced::digits::{OwnDigit, own_digits, own_steps};
 use crate::reduced::labels::labels_of;
 use crate::reduced::level::Level;
-use crate::reduced::spare::SpareLevels;
 use crate::reduced::survey::visits_in;
 use crate::reduced::visits::Visit;
 use crate::strategies::counts::Counts;
@@ -48,7 +47,8 @@ struct Search {
     met: Vec<bool>,
     /// The numbers of the first strategies, from 0.
     numbers: Vec<u32>,
-    spare: SpareLevels,
+    /// Levels that are no longer needed, whatever they hold.
+    spare: Vec<Level>,
 }
 
 /// Whether all flags are set.
@@ -57,12 +57,7 @@ fn are_set(flags: &[bool]) -> bool
     ensures unset { result ≡ false
         → (k : ℕ) × (k < length flags.now) × (get_or flags.now k false ≡ false) }
 {
-    for flag in flags {
-        if !*flag {
-            return false;
-        }
-    }
-    true
+    flags.iter().all(|flag| *flag)
 }
 
 impl Search {
@@ -133,7 +128,7 @@ impl Search {
         };
         let each = count / digit.actions;
         let tried = self.actions_tried(depth, *digit);
-        let mut left = self.spare.level();
+        let mut left = Level::reused(&mut self.spare);
         for before in 0..tried {
             left.choose_at(level, digit.step, u64::from(before + 1), depth)?;
             self.push_below(
@@ -145,7 +140,7 @@ impl Search {
                 each,
             )?;
         }
-        self.spare.give_back(left)?;
+        self.spare.push(left)?;
         Ok(())
     }
 }
@@ -192,7 +187,7 @@ fn first_numbers(
     let mut search = Search {
         met: Vec::new(alloc),
         numbers: Vec::new(alloc),
-        spare: SpareLevels::new(alloc),
+        spare: Vec::new(alloc),
     };
     search.push_below(player, &player.digits, &level, 0, 0, whole)?;
     Ok(search.numbers)

@@ -16,7 +16,6 @@ use crate::division::divided;
 use crate::reduced::digits::OwnDigit;
 use crate::reduced::first::Player;
 use crate::reduced::level::Level;
-use crate::reduced::spare::SpareLevels;
 use crate::reduced::visits::Visit;
 use crate::strategies::label_text::write_label;
 use crate::strategies::numbered::{room_for_choices, write_strategy};
@@ -43,7 +42,8 @@ pub(crate) struct Relevance {
     pub flags: Vec<bool>,
     /// How many sets there are.
     pub sets: usize,
-    spare: SpareLevels,
+    /// Levels that are no longer needed, whatever they hold.
+    spare: Vec<Level>,
 }
 
 /// The choice, from 0, at the slowest digit under the strategy with this number. There are `count`
@@ -108,7 +108,7 @@ impl Relevance {
             alloc,
             flags,
             sets,
-            spare: SpareLevels::new(alloc),
+            spare: Vec::new(alloc),
         })
     }
 
@@ -230,7 +230,7 @@ impl Relevance {
             let ordered = by_choices(self.alloc, strategies, each)?;
             return self.mark_below(player, faster, level, &ordered, each);
         }
-        let mut left = self.spare.level();
+        let mut left = Level::reused(&mut self.spare);
         let mut rest = strategies;
         while !rest.is_empty() {
             let before = choice(rest[0].number, count, each);
@@ -239,7 +239,7 @@ impl Relevance {
             self.mark_below(player, faster, &left, own, each)?;
             rest = others;
         }
-        self.spare.give_back(left)?;
+        self.spare.push(left)?;
         Ok(())
     }
 }

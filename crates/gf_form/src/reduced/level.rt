@@ -107,6 +107,14 @@ impl Level {
         }
     }
 
+    /// A level to be filled anew, in the room of one that is no longer needed.
+    pub(crate) fn reused(spare: &mut Vec<Level>) -> Level {
+        match spare.pop() {
+            Some(level) => level,
+            None => Level::none(*spare.allocator()),
+        }
+    }
+
     /// These visits to this many sets, before any choice.
     pub(crate) fn of_visits(
         alloc: Global,

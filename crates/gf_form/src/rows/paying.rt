@@ -11,12 +11,7 @@ use std::alloc::{AllocError, Global};
 fn are_zero(numbers: &[i128]) -> bool
     ensures { IsTrue result → (k : ℕ) → get_or numbers.now k (pos 0) ≡ pos 0 }
 {
-    for number in numbers {
-        if *number != 0 {
-            return false;
-        }
-    }
-    true
+    numbers.iter().all(|number| *number == 0)
 }
 
 impl Terms {

@@ -11,7 +11,6 @@ ghost use Rattle.gf_form.specs.inner.rows.TermLists.{all_terms, with_demands};
 
 use crate::rows::chosen::{Chosen, count_near};
 use crate::rows::digits::Digit;
-use crate::rows::spare::SpareTerms;
 use crate::rows::terms::Terms;
 use std::alloc::AllocError;
 
@@ -66,7 +65,7 @@ impl Terms {
         slowest: Digit,
         faster: &[Digit],
         choices: u32,
-        spare: &mut SpareTerms,
+        spare: &mut Vec<Terms>,
     ) -> Result<Terms, AllocError>
         requires order { AreInOrder self.now }
         requires steps { HaveSteps (slowest ∷ faster.now) }
@@ -77,13 +76,13 @@ impl Terms {
         ensures order { IfOk result AreInOrder }
     {
         let free = count_near(&self.demands, slowest.step, 0);
-        let mut first = spare.list(self.players);
+        let mut first = Terms::list(spare, self.players);
         first.clear(self.den);
         first.push_part(self, 0, free, 0)?;
-        let mut list = spare.list(self.players);
+        let mut list = Terms::list(spare, self.players);
         list.clear(self.den);
         list.push_sums(&first, faster, choices / slowest.actions.max(1), 0, spare)?;
-        spare.give_back(first)?;
+        spare.push(first)?;
         list.push_part(self, free, self.demands.len(), 0)?;
         Ok(list)
     }
@@ -97,7 +96,7 @@ impl Terms {
         digits: &[Digit],
         choices: u32,
         raised: u64,
-        spare: &mut SpareTerms,
+        spare: &mut Vec<Terms>,
     ) -> Result<(), AllocError>
         requires may { MayAddUp digits.now raised from.now self.old }
         ensures added { OnOk result (AreAddedUp digits.now raised from.now self.old self.new) }
@@ -125,14 +124,14 @@ impl Terms {
         faster: &[Digit],
         choices: u32,
         raised: u64,
-        spare: &mut SpareTerms,
+        spare: &mut Vec<Terms>,
     ) -> Result<(), AllocError>
         requires may { MayAddUp (slowest ∷ faster.now) raised from.now self.old }
         ensures added { OnOk result
             (AreAddedUp (slowest ∷ faster.now) raised from.now self.old self.new) }
         ensures alike { AreAlike self.new self.old }
     {
-        let mut level = spare.list(from.players);
+        let mut level = Terms::list(spare, from.players);
         let mut chosen = Chosen::none();
         for before in 0..slowest.actions {
             let action = u64::from(before) + 1;
@@ -141,7 +140,7 @@ impl Terms {
             let first = raised + action * slowest.step;
             self.push_sums(&level, faster, choices / slowest.actions, first, spare)?;
         }
-        spare.give_back(level)?;
+        spare.push(level)?;
         Ok(())
     }
 }

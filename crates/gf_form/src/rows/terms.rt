@@ -74,6 +74,20 @@ impl Terms {
         }
     }
 
+    /// A list to be filled anew, in the room of one that is no longer needed.
+    #[inline(always)]
+    pub(crate) fn list(spare: &mut Vec<Terms>, players: usize) -> Terms
+        ensures { result.players ≡ players }
+    {
+        match spare.pop() {
+            Some(mut list) => {
+                list.players = players;
+                list
+            }
+            None => Terms::new(*spare.allocator(), players, 0),
+        }
+    }
+
     /// No terms are left. Those to come are over this denominator, unless they are over others.
     pub(crate) fn clear(&mut self, den: u128)
         ensures none { all_terms self.new ≡ [] }

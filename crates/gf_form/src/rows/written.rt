@@ -15,12 +15,10 @@ use crate::rows::asked::{Asked, Run};
 use crate::rows::chosen::Chosen;
 use crate::rows::digits::Digit;
 use crate::rows::pairs::Pair;
-use crate::rows::spare::SpareTerms;
 use crate::rows::terms::{Terms, push_few};
 use crate::values::choices::Choices;
 use crate::values::expectation::expected_with;
 use crate::values::nodes::Nodes;
-use crate::values::spare::SpareRows;
 use gf_fraction::{Fraction, SharedDenominator};
 use gf_token::FormFault;
 use gf_tree::Game;
@@ -33,10 +31,12 @@ pub(crate) struct Written<'g, 'a> {
     pub rows: Vec<Fraction>,
     /// The nodes of the game, from the first walk on.
     pub nodes: Option<Nodes<'g, 'a>>,
-    pub spare_rows: SpareRows,
+    /// Rows that are no longer needed, whatever they hold.
+    pub spare_rows: Vec<Vec<Fraction>>,
     /// The denominator of the last pair.
     pub shared: SharedDenominator,
-    pub spare: SpareTerms,
+    /// Lists that are no longer needed, whatever they hold.
+    pub spare: Vec<Terms>,
 }
 
 /// What each player is paid at the profile with this number, from 0, by a walk through the tree.
@@ -45,7 +45,7 @@ fn row_by_walk<'g, 'a>(
     asked: &Asked<'_, 'g, 'a>,
     nodes: &Nodes<'g, 'a>,
     profile: u32,
-    spare: &mut SpareRows,
+    spare: &mut Vec<Vec<Fraction>>,
 ) -> Result<Vec<Fraction>, EvalFault>
     requires asked { IsAsked asked.now }
     requires nodes { AreNodesOf asked.now.game.now nodes.now }
@@ -76,9 +76,9 @@ impl<'g, 'a> Written<'g, 'a> {
             alloc,
             rows: Vec::with_capacity(alloc, profiles as usize * players)?,
             nodes: None,
-            spare_rows: SpareRows::new(alloc),
+            spare_rows: Vec::new(alloc),
             shared: SharedDenominator::new(1),
-            spare: SpareTerms::new(alloc),
+            spare: Vec::new(alloc),
         })
     }
 
@@ -109,7 +109,7 @@ impl<'g, 'a> Written<'g, 'a> {
             Ok(row) => {
                 self.nodes = Some(nodes);
                 self.rows.extend_from_slice(&row)?;
-                self.spare_rows.give_back(row)?;
+                self.spare_rows.push(row)?;
                 Ok(())
             }
             Err(EvalFault::Overflow) => Err(FormFault::Overflow {
@@ -294,7 +294,7 @@ impl<'g, 'a> Written<'g, 'a> {
         ensures written { OnOk result (AreWritten asked.now run.to self.new) }
         ensures refused { IsRightlyRefused asked.now result }
     {
-        let mut level = self.spare.list(terms.players);
+        let mut level = Terms::list(&mut self.spare, terms.players);
         let mut rest = run;
         let mut chosen = Chosen::none();
         while rest.from < rest.to {
@@ -303,7 +303,7 @@ impl<'g, 'a> Written<'g, 'a> {
             self.push_rows(asked, &level, faster, next)?;
             rest.from = next.to;
         }
-        self.spare.give_back(level)?;
+        self.spare.push(level)?;
         Ok(())
     }
 }

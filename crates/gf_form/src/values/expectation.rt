@@ -14,7 +14,6 @@ use crate::values::choices::Choices;
 use crate::values::nodes::Nodes;
 use crate::values::payoffs::Payoffs;
 use crate::values::rows::write_out;
-use crate::values::spare::SpareRows;
 use crate::values::walk::Walk;
 use gf_fraction::Fraction;
 use gf_tree::Game;
@@ -29,7 +28,7 @@ pub(crate) fn expected_with<'g, 'a>(
     payoffs: &Payoffs<'g>,
     nodes: &Nodes<'g, 'a>,
     choices: Choices<'_>,
-    spare: &mut SpareRows,
+    spare: &mut Vec<Vec<Fraction>>,
 ) -> Result<Vec<Fraction>, EvalFault>
     requires choices { AreChoices game.now choices }
     requires payoffs { ArePaid game.now (rows_of payoffs.now) }
@@ -86,7 +85,7 @@ pub fn expected(
     let _players = game.players();
     let payoffs = Payoffs::new(alloc, game)?;
     let nodes = Nodes::new(alloc, game)?;
-    let mut spare = SpareRows::new(alloc);
+    let mut spare = Vec::new(alloc);
     let given = Choices::Given(choices);
     expected_with(alloc, game, &payoffs, &nodes, given, &mut spare)
 }

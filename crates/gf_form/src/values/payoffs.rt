@@ -16,12 +16,7 @@ use std::alloc::{AllocError, Global};
 fn all_zero(row: &[Fraction]) -> bool
     ensures { IsTrue result → (k : ℕ) → at_place row.now k ≡ zero_ratio }
 {
-    for payoff in row {
-        if *payoff != Fraction::zero() {
-            return false;
-        }
-    }
-    true
+    row.iter().all(|payoff| *payoff == Fraction::zero())
 }
 
 /// The payoffs of the outcome at this position, from 1; none if nobody is paid anything.

@@ -1,6 +1,6 @@
 //! Rows of numbers, one for each player, that are added up. An empty row stands for zeros.
 
-ghost use Rattle.std.specs.Prelude.{◌≡◌, ◌<◌, ◌≤◌, ℕ, None, Some, OnOk, IfSome, IsErrOf, length};
+ghost use Rattle.std.specs.Prelude.{◌≡◌, ◌<◌, ◌≤◌, ℕ, None, Some, IfOk, OnOk, IfSome, IsErrOf, length};
 ghost use Rattle.gf_fraction.specs.Ratio.{IsFraction};
 ghost use Rattle.gf_form.specs.inner.values.Rows.{IsRow, at_place};
 ghost use Rattle.gf_form.specs.inner.values.Values.{plus_of, times_of};
@@ -8,6 +8,23 @@ ghost use Rattle.gf_form.specs.inner.values.Values.{plus_of, times_of};
 use crate::fault::EvalFault;
 use gf_fraction::Fraction;
 use std::alloc::AllocError;
+
+/// A row of these numbers, in the room of one that is no longer needed: a walk allocates no more rows
+/// once it has as many as it needs at a time.
+pub(crate) fn row_of(
+    spare: &mut Vec<Vec<Fraction>>,
+    numbers: &[Fraction],
+) -> Result<Vec<Fraction>, AllocError>
+    ensures { IfOk result (λ row. row.items ≡ numbers.now) }
+{
+    let mut row = match spare.pop() {
+        Some(row) => row,
+        None => Vec::new(*spare.allocator()),
+    };
+    row.clear();
+    row.extend_from_slice(numbers)?;
+    Ok(row)
+}
 
 /// Writes the zeros of an empty row out.
 pub(crate) fn write_out(row: &mut Vec<Fraction>, players: usize) -> Result<(), AllocError>

@@ -21,8 +21,7 @@ use crate::values::choices::Choices;
 use crate::values::nodes::Nodes;
 use crate::values::payoffs::Payoffs;
 use crate::values::positions::at;
-use crate::values::rows::{pay, weigh};
-use crate::values::spare::SpareRows;
+use crate::values::rows::{pay, row_of, weigh};
 use gf_fraction::Fraction;
 use gf_tree::{Branch, Game};
 use std::alloc::Global;
@@ -162,7 +161,7 @@ impl<'g, 'a> Walk<'_, 'g, 'a> {
     }
 
     /// Goes into a node.
-    fn enter(&self, node: usize, spare: &mut SpareRows) -> Result<Next, EvalFault>
+    fn enter(&self, node: usize, spare: &mut Vec<Vec<Fraction>>) -> Result<Next, EvalFault>
         requires some_player { 0 < length self.now.game.now.players }
         requires walk { IsWalk self.now }
         requires there { IsThere self.now node }
@@ -175,10 +174,10 @@ impl<'g, 'a> Walk<'_, 'g, 'a> {
         let branch = self.branch(node);
         let Some((player, position)) = branch.mover() else {
             let payoffs = self.payoffs.at(branch.outcome_position());
-            return Ok(Next::Value(spare.row(payoffs)?));
+            return Ok(Next::Value(row_of(spare, payoffs)?));
         };
         if player == 0 {
-            return self.draw(node, 0, spare.row(&[])?);
+            return self.draw(node, 0, row_of(spare, &[])?);
         }
         let action = self.action(node, player, position);
         match self.child_by(node, action) {
@@ -196,7 +195,7 @@ impl<'g, 'a> Walk<'_, 'g, 'a> {
         &self,
         node: Open,
         value: Vec<Fraction>,
-        spare: &mut SpareRows,
+        spare: &mut Vec<Vec<Fraction>>,
     ) -> Result<Next, EvalFault>
         requires walk { IsWalk self.now }
         requires is_open { IsOpen self.now node }
@@ -216,7 +215,7 @@ impl<'g, 'a> Walk<'_, 'g, 'a> {
             } => {
                 let chance = chance_of(&self.branch(node), given);
                 weigh(&mut sum, chance, &value)?;
-                spare.give_back(value)?;
+                spare.push(value)?;
                 self.draw(node, given, sum)
             }
         }
@@ -227,7 +226,7 @@ impl<'g, 'a> Walk<'_, 'g, 'a> {
     pub(crate) fn value(
         &self,
         alloc: Global,
-        spare: &mut SpareRows,
+        spare: &mut Vec<Vec<Fraction>>,
     ) -> Result<Vec<Fraction>, EvalFault>
         requires some_player { 0 < length self.now.game.now.players }
         requires walk { IsWalk self.now }

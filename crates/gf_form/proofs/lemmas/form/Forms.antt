@@ -166,11 +166,6 @@ same_rows n (x ∷ xs) (y ∷ ys) h k counted same =
     let rest : others xs ≡ others ys = grind (arith, append_cancel_left, first) in
     λ i. first i ∷ same_rows n xs ys h.1 k.1 (omega (arith, counted)) rest i
 
-pub all_more : {A : Type 0} (P : A → Type 0) (xs : List A) (i : ℕ) (d : A) → i < length xs
-    → AllByRecursion P (take i xs) → P (get_or xs i d) → AllByRecursion P (take (i + 1) xs)
-all_more P xs i d less h k =
-    rw (take_more xs i d less) (all_both P (take i xs) (get_or xs i d ∷ []) h (k, tt))
-
 before_it : {A : Type 0} (P : A → Type 0) (xs : List A) (i k : ℕ) (x : A)
     → AllByRecursion P (take i xs) → k < i → slice_get xs k ≡ Some x → P x
 before_it P (y ∷ ys) (suc i) (suc k) x h less is = before_it P ys i k x h.1 (omega (arith, less)) is

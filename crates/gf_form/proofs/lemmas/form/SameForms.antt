@@ -36,13 +36,6 @@ any_carried : {X Y : Type 0} (f : X → Y) (p : Y → Bool) (q : X → Bool) (P 
 any_carried f p q P same [] h = refl
 any_carried f p q P same (x ∷ xs) h = grind (arith, any_carried f p q P same xs h.1)
 
--- a form of a game is one of another that has the same title, comment and players
-form_again : (labels : ℕ → List (List ℕ)) (R : List ℕ → List Ratio → Type 0) (g h : Game)
-    (t : Table) → g.title ≡ h.title → g.comment ≡ h.comment → g.players ≡ h.players
-    → IsFormWith labels R g t → IsFormWith labels R h t
-form_again labels R g h t title comment players form =
-    grind (arith, positions, profiles, strategies)
-
 -- what a strategy chooses at a set, by the new numbers
 choice_carried : (f : SetKey → SetKey) (keys : List SetKey) (strategy : List ℕ) (key : SetKey)
     → ((k : SetKey) → Has keys k → same_set (f k) (f key) ≡ same_set k key)
@@ -125,16 +118,9 @@ module _ (g : Game) (r : Renumbering) (game : IsGame g) (is : IsRenumbering g r)
   profiles_carried =
       λ i. profiles (map (λ player. length (strategies_carried player i)) (players_of g))
 
-  paid_carried : (profile : List ℕ) (player : ℕ)
-      → payoff h (choices_by h (strategies_at h profile)) player
-      ≡ payoff g (choices_by g (strategies_at g profile)) player
-  paid_carried profile player =
-      ap (λ all. payoff h (choices_by h all) player) (strategies_at_carried profile)
-      ∙ payoff_carried (strategies_at g profile) player
-
   right_carried : ArePayoffsAt h ≡ ArePayoffsAt g
   right_carried = λ i profile payoffs. AllZip
-      (λ paid player. IsFraction paid × IsEqual paid (paid_carried profile player i)) payoffs
+      (λ paid player. IsFraction paid × IsEqual paid ((ap (λ all. payoff h (choices_by h all) player) (strategies_at_carried profile) ∙ payoff_carried (strategies_at g profile) player) i)) payoffs
       (players_of g)
 
   value_at_carried : (profile : List ℕ) (player : ℕ) (value : Ratio)
@@ -152,7 +138,7 @@ module _ (g : Game) (r : Renumbering) (game : IsGame g) (is : IsRenumbering g r)
 
   form_carried : (labels others : ℕ → List (List ℕ)) (R S : List ℕ → List Ratio → Type 0)
       → others ≡ labels → S ≡ R → (t : Table) → IsFormWith labels R g t ↔ IsFormWith others S h t
-  form_carried labels others R S e f t = grind (arith, form_again, subst₂)
+  form_carried labels others R S e f t = grind (arith, positions, profiles, strategies, subst₂)
 
   strategic_carried : (t : Table) → IsStrategicForm g t ↔ IsStrategicForm h t
   strategic_carried = form_carried (strategy_labels g) (strategy_labels h) (ArePayoffsAt g)
@@ -163,11 +149,6 @@ module _ (g : Game) (r : Renumbering) (game : IsGame g) (is : IsRenumbering g r)
   -- its set is one of the game's
   abbrev HasUsed : Node → Type 0
   HasUsed n = (key : SetKey) → n.set ≡ Some key → Has (used_sets g.tree) key
-
-  all_used : AllByRecursion (OnPlay HasUsed) (plays g.tree)
-  all_used = on_plays HasUsed g.tree
-      (all_of_each (λ (e : Listed Node). HasUsed e.node) (flatten g.tree)
-      (λ e i key at. held (λ (n : Node). n.set) (flatten g.tree) e key i at))
 
   module _ (player : ℕ) (strategy : List ℕ) where
     abbrev c : SetKey → ℕ
@@ -186,7 +167,7 @@ module _ (g : Game) (r : Renumbering) (game : IsGame g) (is : IsRenumbering g r)
 
     relevant_carried : (key : SetKey) → Has (used_sets g.tree) key
         → is_relevant h d (renumbered_set r key) ≡ is_relevant g c key
-    relevant_carried key used = grind (arith, all_used, any_carried, comes_carried, plays_carried)
+    relevant_carried key used = grind (arith, on_plays HasUsed g.tree (all_of_each (λ (e : Listed Node). HasUsed e.node) (flatten g.tree) (λ e i key at. held (λ (n : Node). n.set) (flatten g.tree) e key i at)), any_carried, comes_carried, plays_carried)
 
     -- ---- reduced strategies
 

@@ -307,10 +307,6 @@ come_both player d e key own (s ∷ steps) hd he h =
           grind arith
     ]
 
-shown_same : (a b : Bool) (m n : ℕ) → (a ≡ true → (b ≡ true) × (m ≡ n)) → (b ≡ true → a ≡ true)
-    → (if a then Some m else None) ≡ (if b then Some n else None)
-shown_same a b m n to from = grind arith
-
 module _ (g : Game) (game : IsGame g) (spellable : IsSpellable g) (player : ℕ)
     (above : 0 < player) where
   abbrev chosen : List ℕ → SetKey → ℕ
@@ -320,12 +316,6 @@ module _ (g : Game) (game : IsGame g) (spellable : IsSpellable g) (player : ℕ)
   AgreeAlike s t = (play : Play) → Contains (plays g.tree) play
       → agrees (chosen s) player play ≡ agrees (chosen t) player play
 
-  relevant_too : (s t : List ℕ) → Contains (strategies g player) s → AgreeAlike s t
-      → (key : SetKey) → key.player ≡ player → is_relevant g (chosen s) key ≡ true
-      → (is_relevant g (chosen t) key ≡ true) × (chosen s key ≡ chosen t key)
-  relevant_too s t his alike key own relevant =
-      grind (arith, passing_play, come_both, contains, any_has)
-
   pub agree_reduced : (s t : List ℕ) → Contains (strategies g player) s
       → Contains (strategies g player) t → AgreeAlike s t → reduced g player s ≡ reduced g player t
   agree_reduced s t hs ht alike =
@@ -333,4 +323,4 @@ module _ (g : Game) (game : IsGame g) (spellable : IsSpellable g) (player : ℕ)
       (λ key. if is_relevant g (chosen s) key then Some (chosen s key) else None)
       (λ key. if is_relevant g (chosen t) key then Some (chosen t key) else None)
       (player_keys g player)
-      (grind (arith, shown_same, relevant_too, own_set))
+      (grind (arith, passing_play, come_both, contains, any_has, own_set))

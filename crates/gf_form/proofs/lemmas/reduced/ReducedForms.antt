@@ -33,11 +33,8 @@ position_in xs x at =
 
 -- ---- a strategy reduces to one, and each is reduced to
 
-choice_equality : (a b : Option ℕ) → Decides (same_choice a b) (a ≡ b)
-choice_equality a b = grind arith
-
 pub choices_equality : (a b : List (Option ℕ)) → Decides (pointwise same_choice a b) (a ≡ b)
-choices_equality a b = grind (arith, choice_equality, slice_eq-Decides)
+choices_equality a b = grind (arith, slice_eq-Decides)
 
 module _ (g : Game) where
   -- a strategy at one position and a reduced strategy at the other, to which it reduces
@@ -176,16 +173,6 @@ one_place xs i j d h hi hj e = grind (arith, Has, there)
 abbrev IsSmallChoice : Option ℕ → Type 0
 IsSmallChoice choice = IfSome choice (λ n. n < 2 ^ 64)
 
-undashed_choice : (choice : Option ℕ) → IsSmallChoice choice → AreUndashed (choice_text choice)
-undashed_choice choice small = grind (arith, undashed_number)
-
-no_star : (n : ℕ) → n < 2 ^ 64 → codes "*" ≡ decimal n → ⊥
-no_star n small e = grind (arith, AreDigits, digits_of)
-
-one_choice : (a b : Option ℕ) → IsSmallChoice a → IsSmallChoice b → choice_text a ≡ choice_text b
-    → a ≡ b
-one_choice a b ha hb e = grind (arith, decimal_injective, no_star)
-
 small_at : (keys : List SetKey) (s : List ℕ) → AreSmall s → (key : SetKey)
     → choice_at keys s key < 2 ^ 64
 small_at (k ∷ keys) (a ∷ s) small key = grind (arith, small_at keys s small.1 key)
@@ -228,7 +215,7 @@ module _ (g : Game) (player : ℕ) where
       let t = get_or all j [] in
       let hs = small_strategy small s (there all i [] hi) in
       let ht = small_strategy small t (there all j [] hj) in
-      grind (arith, each_once, one_choice, same_joined, undashed_choice)
+      grind (arith, each_once, decimal_injective, AreDigits, digits_of, same_joined, undashed_number)
 
 -- ---- profiles
 

@@ -25,10 +25,6 @@ any_has test (y ∷ ys) x (inr i) h = or_right (test y) (list_any test ys) (any_
 
 -- ---- equal reduced strategies
 
-shown_alike : (a b : Bool) (m n : ℕ)
-    → a ≡ true → (if a then Some m else None) ≡ (if b then Some n else None) → m ≡ n
-shown_alike a b m n h e = grind arith
-
 mapped_alike : {X : Type 0} (f h : X → Option ℕ) (xs : List X) (x : X)
     → map f xs ≡ map h xs → Has xs x → f x ≡ h x
 mapped_alike f h [] x e i = absurd i
@@ -90,7 +86,7 @@ module _ (g : Game) (player : ℕ) where
       → (key : SetKey) → is_relevant g (chosen s) key ≡ true → chosen s key ≡ chosen t key
   same_where_relevant s t e key relevant =
       let there = used_before same_set same_set_equality (player_keys g player) key in
-      grind (arith, there, mapped_alike, shown_alike, none_chosen)
+      grind (arith, there, mapped_alike, none_chosen)
 
   module _ (c d : SetKey → ℕ) where
     comes_same : (key : SetKey) → key.player ≡ player → (rest : List Step)

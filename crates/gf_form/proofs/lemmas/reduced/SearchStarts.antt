@@ -20,8 +20,8 @@ use Rattle.gf_form.proofs.lemmas.rows.GameDigits.{choice_at_number, product_pick
 use Rattle.gf_form.proofs.lemmas.rows.GameDigits.{picked_at}
 use Rattle.gf_form.proofs.lemmas.strategies.Chosen.{length-all_choices, choice_length}
 use Rattle.gf_form.proofs.lemmas.strategies.CountedActions.{actions_positive, sets_counted}
-use Rattle.gf_form.proofs.lemmas.strategies.CountedActions.{take_past}
 use Rattle.gf_form.proofs.lemmas.strategies.StrategiesByNumber.{all_at}
+use Rattle.gf_form.proofs.lemmas.strategies.CountedActions.{take_past}
 
 -- the digits so far and those to come
 pub digit_more : (counts steps : List ℕ) (i step : ℕ) (made next : List OwnDigit) → steps

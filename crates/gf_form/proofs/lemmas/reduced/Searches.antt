@@ -12,12 +12,12 @@ use Common.{Visit, arith, false, subst, Game, List, drop, refl, take, true, zero
 use Common.{inr, suc, sym, ◌%◌, ◌*◌, ◌+◌, ◌-◌, ◌/◌, ◌<◌, ◌^◌, ◌∙◌, ◌∣◌, ◌∷◌, ◌≡◌, ◌≤◌, ap, ℕ}
 use Rattle.gf_form.specs.inner.reduced.Search.{IsPlayer}
 use Rattle.gf_form.specs.declared.reduced.first.Player.{Player}
-use Rattle.gf_form.proofs.lemmas.strategies.StrategiesByNumber.{choices_next}
 use Rattle.gf_form.proofs.lemmas.rows.GameDigits.{choice_at_number}
 use Rattle.gf_form.proofs.lemmas.strategies.CountedActions.{product_positive, action_within}
 use Rattle.gf_form.proofs.lemmas.strategies.Chosen.{length-all_choices, long}
 use Rattle.gf_form.proofs.lemmas.reduced.FirstStrategies.{IsRepeated, passed_by, repeated}
 use Rattle.gf_form.proofs.lemmas.rows.Digits.{next_is}
+use Rattle.gf_form.proofs.lemmas.strategies.StrategiesByNumber.{choices_next}
 
 pub steps_positive : (digits : List OwnDigit) → AllByRecursion IsFine digits
     → ArePositive (steps_to digits)
@@ -165,10 +165,6 @@ unmet_by : (place : ℕ) (steps choices : List ℕ) (visits : List Visit)
 unmet_by place steps choices [] e = refl
 unmet_by place steps choices (v ∷ visits) e = grind (arith, unmet_by place steps choices visits)
 
-unmet_left : (place : ℕ) (steps choices : List ℕ) (level : Level)
-    → can_be_met place level ≡ false → is_left place steps choices level ≡ false
-unmet_left place steps choices level e = grind (arith, unmet_by)
-
 -- with no digit left, each visit comes about
 pub left_all : (place : ℕ) (level : Level) → is_left place [] [] level ≡ can_be_met place level
 left_all place level = λ i. get_or level.known.items place false
@@ -230,13 +226,6 @@ module _ {p : Player} (is : IsPlayer p) where
         | inr one ↦ alone n q within less one
       ]
 
-  unsettled : (depth n j : ℕ) → n < length all → j < length digits
-      → is_settled g p.number digits depth n j ≡ false → j < depth
-      → IsRepeated g is.is_game p.number n
-  unsettled depth n j within less flag early =
-      repeated g is.is_game p.number n (digit_at digits j).place within (place_inside j less)
-      (grind (arith, flag)) (grind (arith, nat_tests, flag))
-
   module _ {left : List OwnDigit} {level : Level} {depth number count : ℕ}
       (below : IsSearched p left level depth number count) where
     within_all : (n : ℕ) → n < number + count → n < length all
@@ -255,8 +244,7 @@ module _ {p : Player} (is : IsPlayer p) where
           → get_or met j false ≡ false → is_settled g p.number digits depth n j ≡ false
       unmet_flag n j from to among unmet =
           below.tells n j from to among
-          ∙ unmet_left j _ _ level
-          (sym (marks.marked j (omega (arith, among, below.levelled.counted))) ∙ unmet)
+          ∙ (grind (arith, unmet_by, sym (marks.marked j (omega (arith, among, below.levelled.counted))) ∙ unmet))
 
       taken : length (take depth met) ≡ depth
       taken = grind (arith, length-take-le)
@@ -269,9 +257,7 @@ module _ {p : Player} (is : IsPlayer p) where
           let early : j < depth = omega (arith, inside, taken) in
           let among : j < length digits = omega (arith, early, below.deep) in
           passed_by g is.is_game p.number numbers number count found below.end
-          (λ n from to. unsettled depth n j (within_all n to) among
-          (unmet_flag n j from to among (sym (get_or-take depth met j false early) ∙ shut))
-          early)
+          (λ n from to. (repeated g is.is_game p.number n (digit_at digits j).place (within_all n to) (place_inside j among) (grind (arith, (unmet_flag n j from to among (sym (get_or-take depth met j false early) ∙ shut)))) (grind (arith, nat_tests, (unmet_flag n j from to among (sym (get_or-take depth met j false early) ∙ shut))))))
 
       -- if no digit is left, and all sets are met, the only one is found
       pub last_firsts : left ≡ []

@@ -101,18 +101,7 @@ module _ (faster : List ℕ) (es : List Term) (least done : ℕ) (old now new : 
 
     -- at the new one, those before it do
     at_latest : AddsUpAt (done + 1)
-    at_latest exact =
-        let c = done + 1 in
-        let steps = steps_of faster in
-        let parts = all_parts (IsExactAt den (step ∷ steps) (c ∷ choices)) before.sums own exact in
-        let none = come_none den (step ∷ steps) (c ∷ choices) [] [] (IsOther step c)
-        (other_unmet step c steps choices) before.sums (grind (arith, all_weaker)) in
-        let low : ComeTo den steps choices more.sums (step ∷ steps) (c ∷ choices) own =
-        come_moved den steps choices (step ∷ steps) (c ∷ choices) (IsFree step)
-        (λ e. e.head.demands + c * step) (raised_met step c steps choices (omega arith)) more.sums
-        more.within parts.1 in
-        let one = more.add_up den choices valid low.exact in
-        grind (arith, sum_append, ints)
+    at_latest exact = let c = done + 1 in let steps = steps_of faster in let parts = all_parts (IsExactAt den (step ∷ steps) (c ∷ choices)) before.sums own exact in let low : ComeTo den steps choices more.sums (step ∷ steps) (c ∷ choices) own = come_moved den steps choices (step ∷ steps) (c ∷ choices) (IsFree step) (λ e. e.head.demands + c * step) (raised_met step c steps choices (omega arith)) more.sums more.within parts.1 in let one = more.add_up den choices valid low.exact in grind (arith, sum_append, come_none, other_unmet, all_weaker)
 
   adds_up : AddUpTo ((done + 1) ∷ faster) es (before.sums ++ own)
   adds_up den [] valid = absurd valid
@@ -173,12 +162,7 @@ none_demanded (Ok done) digits least from old new met is order ends =
 
 pub alone_met : (actions : List ℕ) (t : Terms) → length t.demands.items ≤ 1
     → get_or t.demands.items 0 0 ≡ 0 → AllByRecursion (IsMet actions) (all_terms t)
-alone_met actions t few none = at (length t.demands.items) few
-  where
-    at : (n : ℕ) → n ≤ 1 → AllByRecursion (IsMet actions) (first_terms t n)
-    at zero le = tt
-    at (suc zero) le = ((λ choices. rw none (zero_met actions choices)), tt)
-    at (suc (suc n)) le = absurd (omega (arith, le))
+alone_met actions t few none = grind (arith, zero_met)
 
 -- ---- those that demand nothing at the slowest digit
 

@@ -101,10 +101,6 @@ pub record AreFreed {S : Type 0} (g : Game) (h : Handing S) (free : S → S) : T
   pub below_freed : (n : Node) (s : S) (k d : ℕ) → free (h.below g n s k d)
       ≡ h.below g n (free s) k (h.demands (free s))
 
--- none without a digit
-no_digit : (demands step actions : ℕ) → step ≡ 0 → demanded demands step actions ≡ 0
-no_digit demands step actions no_step = grind (arith, div-zero, mod-eq_of_lt)
-
 -- What the path to a child demands, by digits: as that to its parent if its action is demanded, and
 -- the action too if any will do. Choices meet it if they meet what was demanded and come to it.
 record Leads (actions choices ds : List ℕ) (step action k : ℕ) (comes : Bool) : Type 0 where
@@ -119,10 +115,6 @@ module _ {g : Game} {owns : SetKey → Bool} {steps choose : SetKey → ℕ} {ac
   abbrev LeadsAt : List ℕ → ℕ → ℕ → ℕ → Bool → Type 0
   LeadsAt ds step m k comes =
       Leads actions choices ds step (demanded (pack actions ds) step m) k comes
-
-  without_digit : (ds : List ℕ) (step m k : ℕ) (comes : Bool) → AreWithin actions ds → step ≡ 0
-      → comes ≡ true → LeadsAt ds step m k comes
-  without_digit ds step m k comes within no_step is = grind (arith, no_digit, pack)
 
   at_digit : (ds : List ℕ) (step m k choice : ℕ) → AreWithin actions ds → 1 ≤ k → k ≤ m
       → ArePlaced (steps_of actions) actions choices step m choice
@@ -140,7 +132,7 @@ module _ {g : Game} {owns : SetKey → Bool} {steps choose : SetKey → ℕ} {ac
       → option_map (λ set. length set.actions) (set_at g key) ≡ Some m → 1 ≤ k → k ≤ m
       → LeadsAt ds (steps key) m k (comes_by owns choose key k)
   leads_on ds key m k within at from upto =
-      grind (arith, set_there, without_digit, eqb-true, eq-eqb, at_digit, eqb-false)
+      grind (arith, set_there, div-zero, mod-eq_of_lt, pack, eqb-true, eq-eqb, at_digit, eqb-false)
 
   module _ {S : Type 0} (h : Handing S) (free : S → S) (laws : AreFreed g h free) where
     abbrev keep : List (Stop S) → List (Stop S)
@@ -175,14 +167,7 @@ module _ {g : Game} {owns : SetKey → Bool} {steps choose : SetKey → ℕ} {ac
         else if same then Some (h.demands s) else None)) [])
         (option_map_or (λ s. chosen_by s t)
         (if comes then Some (h.below g n (free s) k (h.demands (free s))) else None) [])
-    child_kept t n s ds step action k comes true same tree has led e f =
-        let d = (h.demands s + k * step) % 2 ^ 64 in
-        let small = pack_below actions led.next led.within in
-        let are = led.are (eqb-true action 0 e) in
-        let fits : d ≡ pack actions led.next = grind (arith, mod-eq_of_lt) in
-        let own = tree (h.below g n s k d) led.next
-        (laws.demands_are n s k d ∙ fits, led.within) in
-        grind (arith, laws.below_freed, led.leads)
+    child_kept t n s ds step action k comes true same tree has led e f = let d = (h.demands s + k * step) % 2 ^ 64 in let small = pack_below actions led.next led.within in let fits : d ≡ pack actions led.next = grind (arith, mod-eq_of_lt) in let own = tree (h.below g n s k d) led.next (laws.demands_are n s k d ∙ fits, led.within) in grind (arith, eqb-true)
     child_kept t n s ds step action k comes false true tree has led e f =
         let d = h.demands s in
         let own = tree (h.below g n s k d) ds (laws.demands_are n s k d ∙ has.0, has.1) in

@@ -24,13 +24,10 @@ spans_above [] = omega arith
 spans_above (n ∷ faster) =
     mul_above (n + 1) (product (spans faster)) (omega arith) (spans_above faster)
 
-below_next : (d n p r : ℕ) → d ≤ n → r < p → d * p + r < (n + 1) * p
-below_next d n p r h k = omega (arith, mul-le-mul_right p h, k)
-
 pub pack_below : (actions ds : List ℕ) → AreWithin actions ds
     → pack actions ds < product (spans actions)
 pack_below (n ∷ faster) (d ∷ ds) h =
-    below_next d n (product (spans faster)) (pack faster ds) h.0 (pack_below faster ds h.1)
+    (omega (arith, mul-le-mul_right (product (spans faster)) h.0, (pack_below faster ds h.1), h.0, pack_below faster ds h.1))
 pack_below actions ds h = grind arith
 
 pub within_length : (actions ds : List ℕ) → AreWithin actions ds → length ds ≡ length actions
@@ -175,9 +172,7 @@ own_digit : (counts xs : List ℕ) (j : ℕ) → length xs ≡ length counts →
     → ¬ (get_or (steps_after 1 counts) j 0 ≡ 0)
     → ArePlaced (steps_of (picked counts counts)) (picked counts counts) (picked counts xs)
     (get_or (steps_after 1 counts) j 0) (get_or counts j 0) (get_or xs j 0)
-own_digit (suc (suc n) ∷ counts) (x ∷ xs) (suc j) same less some =
-    behind _ _ _ _ _ _ _ _ _
-    (own_digit counts xs j (omega (arith, same)) (omega (arith, less)) some)
+own_digit (suc (suc n) ∷ counts) (x ∷ xs) (suc j) same less some = grind (arith, behind, own_digit counts xs j (omega (arith, same)) (omega (arith, less)) some)
 own_digit (suc zero ∷ counts) (x ∷ xs) (suc j) same less some =
     own_digit counts xs j (omega (arith, same)) (omega (arith, less)) some
 own_digit (zero ∷ counts) (x ∷ xs) (suc j) same less some =
@@ -227,16 +222,7 @@ pub among_all : (all counts xs : List (List ℕ)) (i step count choice : ℕ)
     → ArePlaced (in_order all) (in_order counts) (in_order xs) step count choice
 among_all (s ∷ all) (n ∷ counts) (x ∷ xs) zero step count choice one other h =
     grind (arith, as_long, length-append, get_or-append-add)
-among_all (s ∷ all) (n ∷ counts) (x ∷ xs) (suc i) step count choice one other h =
-    let before = as_long all counts (cc) in
-    let chosen = as_long xs counts (cc) in
-    let later = among_all all counts xs i step count choice (cc) (cc) h in record {
-      place = later.place;
-      within = omega (arith, length-append (in_order counts) n, later.within);
-      step_is = grind (arith, before, get_or_append_left, later.step_is, later.within);
-      count_is = grind (arith, get_or_append_left, later.count_is, later.within);
-      choice_is = grind (arith, chosen, get_or_append_left, later.choice_is, later.within);
-    }
+among_all (s ∷ all) (n ∷ counts) (x ∷ xs) (suc i) step count choice one other h = grind (arith, as_long, length-append, get_or_append_left, among_all all counts xs i step count choice (cc) (cc) h)
 among_all [] [] xs i step count choice one other h = absurd (omega (arith, h.within))
 among_all all counts xs i step count choice one other h = absurd cc
 
@@ -267,14 +253,11 @@ pub next_is : {A : Type 0} (xs : List A) (i : ℕ) (x d : A) → i < length xs �
     → drop i xs ≡ x ∷ drop (i + 1) xs
 next_is xs i x d less is = grind (arith, drop-cons, add-one)
 
-width_rises : (n : ℕ) (later : List ℕ) → width later ≤ width (n ∷ later)
-width_rises n later = grind (arith, mul-le-mul_right)
-
 -- those of the sets from a place on have no more values than all
 pub width_left : (i : ℕ) (counts later : List ℕ)
     → width (drop i counts ++ later) ≤ width (counts ++ later)
 width_left (suc i) (n ∷ counts) later =
-    omega (arith, width_left i counts later, width_rises n (counts ++ later))
+    grind (arith, width_left i counts later, mul-le-mul_right)
 width_left i counts later = grind arith
 
 product_left : (i : ℕ) (counts later : List ℕ) → ArePositive (counts ++ later)

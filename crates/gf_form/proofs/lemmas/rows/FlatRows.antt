@@ -42,9 +42,6 @@ in_bits z small = to_z-of_z w128 z (fits_signed_from_abs w128 z small)
 
 -- ---- terms whose numbers stand one row after another
 
-pub none_taken : {X : Type 0} (xs : List X) → take 0 xs ≡ []
-none_taken xs = grind arith
-
 -- ---- the terms by place
 
 first_count : (t : Terms) (n : ℕ) → length (first_terms t n) ≡ n
@@ -65,7 +62,7 @@ there t place within = first_there t (length t.demands.items) place within
 
 demands_in : (t : Terms) (n : ℕ) → n ≤ length t.demands.items
     → map (λ (e : Term). e.head.demands) (first_terms t n) ≡ take n t.demands.items
-demands_in t zero within = sym (none_taken t.demands.items)
+demands_in t zero within = sym ((grind arith))
 demands_in t (suc n) within =
     let later = demands_in t n (omega arith) in grind (arith, map-append, take-suc)
 
@@ -112,14 +109,11 @@ module _ (to after : Terms) (e : Term) (shaped : IsShaped to)
   same_row : (k : ℕ) → k < n → (term_at after k).row ≡ (term_at to k).row
   same_row k less = grind (arith, row_within, take-append-le, drop-append-le, length-drop)
 
-  new_row : (term_at after n).row ≡ e.row
-  new_row = grind (arith, drop-append_seam, take-length)
-
   same_term : (k : ℕ) → k < n → term_at after k ≡ term_at to k
   same_term k less = grind (arith, same_row, noted.0 k less, get_or_append_left)
 
   new_term : term_at after n ≡ e
-  new_term = grind (arith, new_row, noted.1, get_or-append_seam)
+  new_term = grind (arith, drop-append_seam, take-length, noted.1, get_or-append_seam)
 
   pub is_pushed : Pushed to after e
   is_pushed = search (rules, grown, same_first, same_term, new_term, length-append)
@@ -147,10 +141,7 @@ pub plain_scale : (t : Terms) (first second : ℕ) → first < length t.demands.
     → second < length t.demands.items → length t.scaled.items ≡ 0 → 0 < t.den
     → IsScale (term_at t first).head (term_at t second).head
     (record { den = t.den; size = 0; first = 1; second = 1 })
-plain_scale t first second one other none above =
-    rw (plain_head t first one none, plain_head t second other none)
-    (same_scale (record { demands = get_or t.demands.items first 0; den = t.den; size = 0 })
-    (record { demands = get_or t.demands.items second 0; den = t.den; size = 0 }) 0 refl above refl)
+plain_scale t first second one other none above = search (rules, plain_head, same_scale)
 
 -- ---- rows of sums
 

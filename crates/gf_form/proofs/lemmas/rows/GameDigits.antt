@@ -21,11 +21,12 @@ use Rattle.gf_form.proofs.lemmas.rows.Digits.{product_joined, in_order_more, fas
 use Rattle.gf_form.proofs.lemmas.rows.Digits.{among_all, as_long}
 use Rattle.std.proofs.Math.Nat.{dvd-mul_left_of_dvd}
 use Rattle.gf_form.proofs.lemmas.strategies.PickedProfiles.{numbered_strategies, numbered}
-use Rattle.gf_form.proofs.lemmas.strategies.StrategiesByNumber.{positive_parts, choices_next}
 use Rattle.gf_form.proofs.lemmas.strategies.StrategiesByNumber.{joined_at, all_at}
 use Rattle.gf_form.proofs.lemmas.strategies.Chosen.{profile_strategies, nothing_chosen, among_his}
 use Rattle.gf_form.proofs.lemmas.strategies.Chosen.{have_actions}
 use Rattle.gf_form.proofs.lemmas.values.Walks.{choice_there}
+use Rattle.gf_form.proofs.lemmas.strategies.StrategiesByNumber.{positive_parts}
+use Rattle.gf_form.proofs.lemmas.strategies.StrategiesByNumber.{choices_next}
 
 -- ---- the choices of the profile with a number
 
@@ -113,18 +114,7 @@ stride_divides [] i less = absurd (omega arith)
 pub choice_by_stride : (counts : List ℕ) (number i : ℕ) → number < product counts
     → i < length counts → get_or (get_or (all_choices counts) number []) i 0
     ≡ number / get_or (strides_of counts) i 0 % get_or counts i 0 + 1
-choice_by_stride (n ∷ counts) number (suc i) less within =
-    let p = product counts in
-    let parts = positive_parts n p number less in
-    let there : i < length counts = omega (arith, within) in
-    let divides = stride_divides counts i there in
-    let step = get_or (strides_of counts) i 0 in
-    let c = get_or counts i 0 in
-    let above : 0 < step = (positive_parts step c 0 (pos_of_dvd_of_pos divides parts.1)).0 in
-    let later = choice_by_stride counts (number % p) i (mod-lt number parts.1) there in
-    let same = faster_part (number / p) p (number % p) step c above divides in
-    let whole : number / p * p + number % p ≡ number = omega (arith, mod-add-div number p) in
-    grind (arith, choices_next, rw whole at same)
+choice_by_stride (n ∷ counts) number (suc i) less within = let p = product counts in let parts = positive_parts n p number less in let there : i < length counts = omega (arith, within) in let divides = stride_divides counts i there in let step = get_or (strides_of counts) i 0 in let c = get_or counts i 0 in let above : 0 < step = (positive_parts step c 0 (pos_of_dvd_of_pos divides parts.1)).0 in let later = choice_by_stride counts (number % p) i (mod-lt number parts.1) there in let same = faster_part (number / p) p (number % p) step c above divides in grind (arith, choices_next, mod-add-div)
 choice_by_stride counts number i less within =
     grind (arith, positive_parts, div-lt_iff_lt-mul, choices_next, mod-eq_of_lt)
 
@@ -160,8 +150,7 @@ among (s ∷ ss) key set is = by (same_set s.key key) refl (among ss key set) is
 -- the sets of the player have theirs
 pub among_own : (g : Game) (player : ℕ) (key : SetKey) (set : InformationSet)
     → key.player ≡ player → set_at g key ≡ Some set → IsAmong (player_sets g player) key set
-among_own g player key set his is = subst (λ (p : ℕ). IsAmong (player_sets g p) key set) his
-    (among (player_sets g key.player) key set (among_his g key ∙ is))
+among_own g player key set his is = grind (arith, his, among, among_his)
 
 -- what is said of a key stands at its place
 pub said_there : (keys : List SetKey) (xs : List ℕ) (place : ℕ) (key : SetKey) → AreDistinct keys
@@ -196,11 +185,7 @@ module _ (g : Game) (game : IsGame g) where
       let within = product_within all i (strategies_positive g game) inside in
       let taken : product (take (i + 1) all) ≤ product all = grind (arith, add-one, more, within) in
       let count : product (in_order (map (action_counts g) first)) ≡ product (take (i + 1) all) =
-      cc (
-        product_in_order (map (action_counts g) first),
-        products_for first,
-        take-map (λ (player : ℕ). length (strategies g player)) (i + 1) (players_of g),
-      ) in
+      grind (arith, product_in_order, products_for, take-map) in
       let few : product (in_order (map (action_counts g) first)) < 2 ^ 32 =
       omega (arith, count, taken, length-profiles all, are.within) in
       rw (← in_order_more _ (action_counts g (i + 1)), ← next_player g (action_counts g) i less, take-map)

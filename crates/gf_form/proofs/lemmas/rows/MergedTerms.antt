@@ -21,9 +21,6 @@ use Rattle.gf_fraction.proofs.Offered.{mul_pos_left, times_both}
 pub quotient_above : (d s : ℕ) → 0 < s → d ∣ s → 0 < s / d
 quotient_above d s above h = mul_pos_left (s / d) d s (div-mul_cancel d h) above
 
-pub quotient_le : (d s : ℕ) → 0 < s → d ∣ s → s / d ≤ s
-quotient_le d s above h = grind arith
-
 pub quotient_of_product : (d b s : ℕ) → 0 < s → d * b ∣ s → b * (s / (d * b)) ≡ s / d
 quotient_of_product d b s above h =
     let some : 0 < d * b = pos_of_dvd_of_pos h above in
@@ -126,14 +123,7 @@ module _ (x y : Ratio) (m n : ℤ) (s : ℕ) (hx : IsFraction x) (hy : IsFractio
   same_den = grind (arith, mul_above, add-*ℤ, *ℤ_assoc)
 
   is_sum : IsSum whole x y
-  is_sum =
-      let chain : IsEqual whole (plus x y) =
-      is_equal whole (m +ℤ n) s whole_fraction.den_above_zero above
-      (lowest_of-value (m +ℤ n) s above)
-      then back same_den
-      then back (plus_both x (over_den m s) y (over_den n s)
-      (is_equal x m s hx.den_above_zero above vx) (is_equal y n s hy.den_above_zero above vy)) in
-      chain.crosswise
+  is_sum = grind (arith, is_equal whole (m +ℤ n) s whole_fraction.den_above_zero above (lowest_of-value (m +ℤ n) s above) then back same_den then back (plus_both x (over_den m s) y (over_den n s) (is_equal x m s hx.den_above_zero above vx) (is_equal y n s hy.den_above_zero above vy)))
 
   -- a sum over one denominator fits, and is over it
   pub sum_over : (r : Ratio) × (sum_of x y ≡ Some r) × IsFraction r × HasValue r (m +ℤ n) s
@@ -177,13 +167,6 @@ module _ (k den : ℕ) (steps choices : List ℕ) (e : Term) (es : List Term) wh
   pub none_first : number_at k e ≡ pos 0
       → sum_of_terms k den steps choices (e ∷ es) ≡ sum_of_terms k den steps choices es
   none_first none = grind (arith, zero-*ℤ, +ℤ_idl)
-
--- ---- the sum of two terms
-
-module _ (den : ℕ) (a b sum : Term) (adds : IsSumOf a b sum) (divides : sum.head.den ∣ den) where
-  pub numbers_added : (k : ℕ) → number_at k sum *ℤ pos (den / sum.head.den)
-      ≡ number_at k a *ℤ pos (den / a.head.den) +ℤ number_at k b *ℤ pos (den / b.head.den)
-  numbers_added k = grind (arith, add-*ℤ, scaled)
 
 -- ---- parts of a list
 
@@ -241,10 +224,6 @@ module _ (den : ℕ) (steps choices others_steps others_choices : List ℕ) (P :
 
 -- ---- a term in place of two
 
-one_sum : (met : Bool) (x y z : ℤ) → (met ≡ true → z ≡ x +ℤ y)
-    → (if met then z else pos 0) ≡ (if met then x else pos 0) +ℤ (if met then y else pos 0)
-one_sum met x y z h = grind arith
-
 module _ (den : ℕ) (steps choices : List ℕ) (a b sum : Term)
     (first : sum.head.demands ≡ a.head.demands) (second : sum.head.demands ≡ b.head.demands)
     (adds : 0 < sum.head.den → IsSumOf a b sum) (exact : IsExactAt den steps choices sum) where
@@ -261,7 +240,7 @@ module _ (den : ℕ) (steps choices : List ℕ) (a b sum : Term)
       then number_at k a *ℤ pos (den / a.head.den) else pos 0)
       +ℤ (if meets steps choices b.head.demands
       then number_at k b *ℤ pos (den / b.head.den) else pos 0)
-  both_sum k = grind (arith, one_sum, numbers_added, met_first, met_second)
+  both_sum k = grind (arith, add-*ℤ, scaled, met_first, met_second)
 
   pub both_come : ComeTo den steps choices (a ∷ b ∷ []) steps choices (sum ∷ [])
   both_come = record {

@@ -9,8 +9,7 @@ use Common.{all_both, at_place, cases_lt, steps_of, lowered, product, term_at, C
 use Common.{IsGame, get_or, length, Asked, Digit, Ratio, Scale, Terms, arith, meets, spans, value}
 use Common.{List, Some, Term, ints, lit<, part, true, zero, ◌*ℤ◌, ◌++◌, ◌+ℤ◌, inl, inr, map, pos, ℕ}
 use Common.{suc, ◌*◌, ◌+◌, ◌-◌, ◌/◌, ◌<◌, ◌^◌, ◌∙◌, ◌∷◌, ◌≡◌, ◌≤◌, ◌⊎◌, [], ap, ℤ}
-use Rattle.gf_form.proofs.lemmas.strategies.StrategiesByNumber.{positive_parts, choices_row}
-use Rattle.gf_form.proofs.lemmas.form.Forms.{one_row_more, all_more}
+use Rattle.gf_form.proofs.lemmas.form.Forms.{one_row_more}
 use Rattle.gf_form.specs.declared.rows.written.Written.{Written}
 use Rattle.gf_form.specs.inner.rows.Pairs.{ComeToPair, only_term, IsOnly, IsPair}
 use Rattle.gf_form.specs.declared.rows.pairs.Only.{Only}
@@ -21,6 +20,12 @@ use Rattle.gf_form.proofs.lemmas.rows.MergedTerms.{sum_append}
 use Rattle.gf_form.proofs.lemmas.rows.FlatRows.{chosen_parts, part_next, part_past}
 use Rattle.gf_form.proofs.lemmas.strategies.PickedProfiles.{numbered_at}
 use Rattle.gf_form.proofs.lemmas.values.BottomUp.{are_payoffs, have_values}
+use Rattle.gf_form.proofs.Common.{profiles}
+use Rattle.gf_form.proofs.Common.{rows}
+use Rattle.gf_form.proofs.Common.{take}
+use Rattle.gf_form.proofs.Common.{take_more}
+use Rattle.gf_form.proofs.lemmas.strategies.StrategiesByNumber.{positive_parts}
+use Rattle.gf_form.proofs.lemmas.strategies.StrategiesByNumber.{choices_row}
 
 -- ---- profiles at which the choice at the slowest digit is the same
 
@@ -30,11 +35,6 @@ pub record IsChoiceOf (n count number before first : ℕ) : Type 0 where
   pub less : before < n
   pub from : first ≤ number
   pub to : number - first < count
-
-pub choice_of : (n count least number : ℕ) → least ≤ number → number - least < n * count
-    → (0 < count) × IsChoiceOf n count number ((number - least) / count)
-    (least + (number - least) / count * count)
-choice_of n count least number from to = grind arith
 
 pub settled_left : (g : Game) (number step action : ℕ) (steps choices : List ℕ)
     (es left : List Term) → AreMerged step action es left
@@ -101,7 +101,7 @@ module _ (asked : Asked) {slowest : Digit} {faster : List Digit} {terms : Terms}
       first = run.first + before * stride
 
       choice : IsChoiceOf slowest.actions stride (number run.from) before first
-      choice = grind (arith, stride_product, choice_of)
+      choice = grind (arith, stride_product)
 
       pub step_within : (before + 1) * slowest.step + slowest.step < 2 ^ 64
       step_within = grind (arith, choice, mul-le-mul_right, first_step)
@@ -146,17 +146,13 @@ one_only t start end only within some one head row den less above divides =
 
 -- ---- two terms
 
-scaled_both : (x y : ℤ) (m n : ℕ) → x *ℤ pos m +ℤ pos 0 +ℤ (y *ℤ pos n +ℤ pos 0)
-    ≡ x *ℤ pos m +ℤ y *ℤ pos n
-scaled_both x y m n = omega (arith, ints)
-
 pub come_to_pair : (frees owns : List Term) (first second : Only) (s : Scale)
     → IsOnly frees first → IsOnly owns second → IsScale first.head second.head s
     → 0 < s.den → s.den < 2 ^ 127 → s.size < 2 ^ 127 → (less : ℕ)
     → ComeToPair [] [] (map (lowered 0) frees ++ map (lowered less) owns)
     (record { scale = s; first = first.numbers; second = second.numbers })
 come_to_pair frees owns first second s only_first only_second is above within small less =
-    grind (arith, sum_append, all_both, scaled_both)
+    grind (arith, sum_append, all_both, ints)
 
 -- ---- what is paid
 
@@ -224,9 +220,8 @@ next_written asked before written after row within right values is nodes done =
     let profiles = asked_profiles asked in
     let at = numbered_at g asked.numbers.now before within in
     record {
-      rows = one_row_more (ArePayoffsAt g) profiles before written.rows.items after.rows.items row
-          at.0 done.rows (rw at.1 right) is;
-      values = all_more (HasValues g) profiles before [] at.0 done.values (rw at.1 values);
+      rows = grind (arith, one_row_more);
+      values = (rw (take_more profiles before [] at.0) (all_both (HasValues g) (take before profiles) (get_or profiles before [] ∷ []) done.values ((rw at.1 values), tt)));
       nodes = nodes;
     }
 

@@ -37,19 +37,14 @@ module _ (den : ℕ) (above : 0 < den) (steps choices : List ℕ) where
   sizes_met : (es : List Term) → AllByRecursion (IsOver den) es
       → unsigned_abs (sum_of_terms 0 den steps choices es) ≤ sizes_of es
   sizes_met [] all = omega arith
-  sizes_met (e ∷ es) all = rw (all.0, div_self above)
-      (chosen (meets steps choices e.head.demands) e.head.size _ _ (sizes_met es all.1))
+  sizes_met (e ∷ es) all = grind (arith, div_self, chosen, sizes_met es all.1)
 
 -- ---- over a multiple of the denominator
 
 module _ (k den most : ℕ) (above : 0 < den) (steps choices : List ℕ) where
   over_most : (z : ℤ) (d : ℕ) → d ≡ den → d ∣ most
       → (z *ℤ pos (most / d)) *ℤ pos den ≡ (z *ℤ pos (den / d)) *ℤ pos most
-  over_most z d same divides =
-      let own : most / d * den ≡ most = rw (sym same) (div-mul_cancel d divides) in
-      let one : den / d ≡ 1 = rw same (div_self above) in
-      let once : 1 * most ≡ most = omega arith in
-      cc (*ℤ_assoc z (pos (most / d)) (pos den), *ℤ_assoc z (pos (den / d)) (pos most))
+  over_most z d same divides = let own : most / d * den ≡ most = rw (sym same) (div-mul_cancel d divides) in let one : den / d ≡ 1 = rw same (div_self above) in grind (arith, *ℤ_assoc)
 
   one_scaled : (b : Bool) (z : ℤ) (d : ℕ) → d ≡ den → (b ≡ true → (0 < d) × (d ∣ most))
       → (if b then z *ℤ pos (most / d) else pos 0) *ℤ pos den
@@ -145,8 +140,7 @@ last_paying from plain left i den all fit first done =
     let second : Kept (all_terms plain) (all_terms left) =
     subst (λ (n : ℕ). Kept (first_terms plain n) (all_terms left)) all done.kept in
     settled_as_well from left den fit (record {
-      sums = λ k own steps choices.
-          second.sums k own steps choices ∙ first.sums k own steps choices;
+      sums = grind arith;
       among = λ den over. second.among den (first.among den over);
     })
 
@@ -200,10 +194,6 @@ settled_at g actions from left least number as_well before = grind arith
 
 -- ---- the nodes that pay somebody something have all shares
 
-nothing_comes : (path : Path) (pay : Ratio) → pay ≡ zero_ratio
-    → ComeAsWell (term_of path pay ∷ []) []
-nothing_comes path pay nothing = rw nothing (grind (arith, one-dvd, none_first, no_number))
-
 module _ (g : Game) (rows : List (List Ratio)) (are : ArePaid g rows) (k : ℕ) where
   abbrev terms : List Path → List Term
   terms rs = node_terms g (suc k) rs
@@ -219,8 +209,7 @@ module _ (g : Game) (rows : List (List Ratio)) (are : ArePaid g rows) (k : ℕ) 
           → ComeAsWell (terms (r ∷ rs)) (terms (if b then r ∷ fs else fs))
       by true is = come_both (terms (r ∷ [])) _ (terms rs) (terms fs) (same_come (terms (r ∷ [])))
       by false is = come_both (terms (r ∷ [])) [] (terms rs) (terms fs)
-          (nothing_comes r (pay_at g (suc k) r)
-          (sym (are.paid_is r.outcome k) ∙ empty_row (row_at rows r.outcome) (grind arith) k))
+          ((rw (sym (are.paid_is r.outcome k) ∙ empty_row (row_at rows r.outcome) (grind arith) k) (grind (arith, one-dvd, none_first, no_number))))
 
 -- ---- what the terms settle
 

@@ -16,7 +16,7 @@ use Common.{ints, kept, more, none, refl, true, zero, ◌*ℤ◌, ◌++◌, ◌+
 use Common.{◌+◌, ◌/◌, ◌<◌, ◌^◌, ◌∙◌, ◌∣◌, ◌∷◌, ◌≡◌, ◌≤◌, ◌⊎◌, ap}
 use Rattle.std.proofs.Math.Nat.{eq-zero_of_zero-dvd, le-mul_of_pos_right}
 use Rattle.gf_form.specs.inner.rows.ReachedNodes.{demanding_path, has_room, is_sum, met_if, drawn}
-use Rattle.gf_form.proofs.lemmas.rows.MergedTerms.{quotient_of_product, quotient_above, quotient_le}
+use Rattle.gf_form.proofs.lemmas.rows.MergedTerms.{quotient_of_product, quotient_above}
 use Rattle.gf_form.proofs.lemmas.rows.MergedTerms.{product_over, none_first, own_value, sum_over}
 use Rattle.gf_form.proofs.lemmas.rows.MergedTerms.{sum_size}
 use Rattle.gf_form.proofs.lemmas.rows.ListedTerms.{bounds_append, shares_append}
@@ -28,9 +28,6 @@ use Rattle.gf_form.proofs.lemmas.values.Walks.{paid_is}
 use Rattle.gf_form.proofs.lemmas.rows.Descents.{set_there, tree_kept}
 
 -- ---- integers
-
-mul-plus : (a b c : ℤ) → a *ℤ (b +ℤ c) ≡ a *ℤ b +ℤ a *ℤ c
-mul-plus a b c = *ℤ_comm a (b +ℤ c) ∙ add-*ℤ b c a ∙ (λ i. *ℤ_comm b a i +ℤ *ℤ_comm c a i)
 
 -- a number whose size times another one is within bounds
 within_part : (z : ℤ) (b limit : ℕ) → 1 ≤ b → unsigned_abs z * b ≤ limit → limit < 2 ^ 127
@@ -49,15 +46,12 @@ IsPart den by r n = ((by ∣ den) × HasValue r n (den / by)) ⊎ ((r ≡ zero_r
 
 module _ (den : ℕ) (den_above : 0 < den) (den_within : den < 2 ^ 127) (by : ℕ) where
   left_within : by ∣ den → den / by < 2 ^ 127
-  left_within divides = omega (arith, den_within, quotient_le by den den_above divides)
+  left_within divides = grind (arith, den_within, den_above, divides)
 
   sum_part : (x y : Ratio) (m n : ℤ) → IsFraction x → IsFraction y → IsPart den by x m
       → IsPart den by y n → IsWithin m → IsWithin n → IsWithin (m +ℤ n)
       → (r : Ratio) × (sum_of x y ≡ Some r) × IsFraction r × IsPart den by r (m +ℤ n)
-  sum_part x y m n fx fy (inl px) (inl py) hm hn hs =
-      let sum = sum_over x y m n (den / by) fx fy (quotient_above by den den_above px.0)
-      (left_within px.0) px.1 py.1 hm hn hs in
-      (sum.0, sum.1, sum.2, inl (px.0, sum.3))
+  sum_part x y m n fx fy (inl px) (inl py) hm hn hs = grind (arith, sum_over x y m n (den / by) fx fy (quotient_above by den den_above px.0) (left_within px.0) px.1 py.1 hm hn hs)
   sum_part x y m n fx fy (inr px) py hm hn hs = grind (arith, zero_plus)
   sum_part x y m n fx fy (inl px) (inr py) hm hn hs = grind (arith, plus_zero, +ℤ_idr)
 
@@ -100,10 +94,7 @@ module _ (g : Game) (player den : ℕ) where
   Fits rs = FitsAt g player den [] [] rs
 
   pub fits_parts : (xs ys : List Path) → Fits (xs ++ ys) → Fits xs × Fits ys
-  fits_parts xs ys fits =
-      let exacts = all_parts (IsExactAt den [] []) (node_terms g player xs) (node_terms g player ys)
-      (rw map-append at fits.exact) in
-      grind (arith, bounds_append)
+  fits_parts xs ys fits = grind (arith, bounds_append, all_parts (IsExactAt den [] []) (node_terms g player xs) (node_terms g player ys) (rw map-append at fits.exact))
 
   -- where nothing is added, the value counts for nothing, or is zero
   pub zero_valued : {pay : Ratio} (path : Path) (rs : List Path) → IsFraction pay
@@ -139,7 +130,7 @@ module _ (g : Game) (player den : ℕ) where
         amount_is = λ some. sum.3;
         shares_are = shares_append g player den [] [] xs ys
             ∙ (λ i. x.shares_are i +ℤ y.shares_are i)
-            ∙ sym (mul-plus (pos weight) x.amount y.amount);
+            ∙ sym ((*ℤ_comm (pos weight) (x.amount +ℤ y.amount) ∙ add-*ℤ x.amount y.amount (pos weight) ∙ (λ i. *ℤ_comm x.amount (pos weight) i +ℤ *ℤ_comm y.amount (pos weight) i)));
         size = omega (arith, x.size, y.size, both, lists);
       }
 
@@ -229,9 +220,7 @@ module _ (g : Game) (player den : ℕ) where
     part = c.num *ℤ h.amount
 
     part_below : unsigned_abs part * path.bound ≤ bounds xs
-    part_below =
-        let times = ap (λ k. k * path.bound) (unsigned_abs-mul c.num h.amount) in
-        omega (arith, times, h.size)
+    part_below = grind (arith, ap (λ k. k * path.bound) (unsigned_abs-mul c.num h.amount))
 
     product : (r : Ratio) × (product_of c h.ratio ≡ Some r) × IsFraction r
         × IsPart den path.den r part

@@ -9,7 +9,8 @@ use Common.{flat_map, mul_comm, profiles, product, AllZip, Counts, get_or, lengt
 use Common.{refl, zero, map, suc, sym, zip, ◌%◌, ◌*◌, ◌+◌, ◌/◌, ◌<◌, ◌∙◌, ◌∷◌, ◌≡◌, [], ap}
 use Rattle.gf_form.proofs.lemmas.strategies.Chosen.{length-all_choices, zip_by_places, all_in_turn}
 use Rattle.gf_form.proofs.lemmas.strategies.Chosen.{zip_flat, in_turn, row_at}
-use Rattle.gf_form.proofs.lemmas.strategies.StrategiesByNumber.{positive_parts, all_at}
+use Rattle.gf_form.proofs.lemmas.strategies.StrategiesByNumber.{all_at}
+use Rattle.gf_form.proofs.lemmas.strategies.StrategiesByNumber.{positive_parts}
 
 -- ---- the profile with a number
 
@@ -28,22 +29,11 @@ profile_at count counts number rest less below =
     let at : number + count * rest ≡ rest * count + number = omega arith in
     rw at (row ∙ first ∙ ap (λ (s : ℕ). s ∷ others) strategy)
 
-pub profiles_next : (count : ℕ) (counts : List ℕ) (rest : ℕ)
-    → 0 < count → rest < count * product counts → get_or (profiles (count ∷ counts)) rest []
-    ≡ (rest % count + 1) ∷ get_or (profiles counts) (rest / count) []
-profiles_next count counts rest some below = grind (arith, mul_comm, below, mod-add-div, profile_at)
-
 -- ---- their numbers
 
 sum_below : (count rest size number : ℕ) → rest < size → number < count
     → number + count * rest < count * size
 sum_below count rest size number less below = grind arith
-
--- one player more, with their strategy at a place, before a profile of the others
-one_picked : (count : ℕ) (counts own : List ℕ) (picked : List (List ℕ)) (others : List ℕ)
-    (rest k : ℕ) → IsPicked counts picked others rest → get_or own k 0 < count
-    → IsPicked (count ∷ counts) (own ∷ picked) ((1 + k) ∷ others) (get_or own k 0 + count * rest)
-one_picked count counts own picked others rest k one less = grind (arith, sum_below, profile_at)
 
 -- with each of their strategies
 more_picked : (count : ℕ) (counts own : List ℕ) (picked : List (List ℕ)) (others : List ℕ)
@@ -60,7 +50,7 @@ more_picked count counts own picked others rest below one =
       get_or-map (λ (s : ℕ). s ∷ others) (positions (length own)) k 0 [] there,
       get_or-numbers_from 1 (length own) k 0 inside,
       get_or-map (λ (number : ℕ). number + count * rest) own k 0 0 inside,
-    ) (one_picked count counts own picked others rest k one here))
+    ) ((grind (arith, sum_below, profile_at))))
 
 -- ---- one player after another
 
@@ -132,5 +122,5 @@ numbered_strategies g (player ∷ players) number less =
     let parts = positive_parts (length all) (product counts) number less in
     let later = (div-lt_iff_lt-mul parts.0).1 (rw mul_comm at less) in
     let others = numbered_strategies g players (number / length all) later in
-    let next = profiles_next (length all) counts number parts.0 less in
+    let next : get_or (profiles ((length all) ∷ counts)) number [] ≡ (number % (length all) + 1) ∷ get_or (profiles counts) (number / (length all)) [] = grind (arith, mul_comm, less, mod-add-div, profile_at, parts.0) in
     grind (arith, is, next, others, add-one, unwrap_or-slice_get)

@@ -10,11 +10,11 @@ use Common.{all_both, take-suc, add-one, decimal, decimal_digit, product, get_or
 use Common.{subst, Bool, List, None, Some, drop, refl, take, true, zero, ◌++◌, ◌==◌, map, suc, sym}
 use Common.{◌%◌, ◌*◌, ◌+◌, ◌/◌, ◌<◌, ◌^◌, ◌∙◌, ◌∷◌, ◌≡◌, ◌≤◌, ap, ℕ}
 use Rattle.gf_token.specs.LabelSpelling.{is_spelling_after, IsLabel}
-use Rattle.gf_form.proofs.lemmas.strategies.CountedActions.{take_past}
 use Rattle.gf_form.proofs.lemmas.strategies.Chosen.{length-all_choices, choices_distinct, IsChoice}
 use Rattle.gf_form.proofs.lemmas.strategies.Chosen.{at_its_place, choice_there, every_choice, long}
 use Rattle.gf_form.proofs.lemmas.strategies.Chosen.{place}
 use Rattle.gf_form.proofs.lemmas.rows.Digits.{product_joined}
+use Rattle.gf_form.proofs.lemmas.strategies.CountedActions.{take_past}
 pub use Rattle.gf_form.proofs.lemmas.strategies.Chosen.{positive_parts, choices_next, choices_row}
 
 pub all_at : {A : Type 0} (P : A → Type 0) (xs : List A) (i : ℕ) (d : A) → AllByRecursion P xs
@@ -207,10 +207,6 @@ label_of_both (a ∷ e ∷ f) (c ∷ b) hf hb =
 label_of_both (a ∷ []) (c ∷ b) hf hb = refl
 label_of_both f b hf hb = absurd (grind arith)
 
-got : (xs : List (List ℕ)) (i : ℕ) (v : List ℕ) → slice_get (map strategy_label xs) i ≡ Some v
-    → i < length xs → v ≡ strategy_label (get_or xs i [])
-got xs i v e less = grind (arith, slice_get-map, slice_get-get_or)
-
 -- labels of strategies, made from this many first ones with all others, and from one more with this
 -- many
 pub record AreJoined (firsts others labels : List (List ℕ)) (i j : ℕ) : Type 0 where
@@ -228,7 +224,7 @@ pub one_joined_more : (firsts others labels next : List (List ℕ)) (i j : ℕ)
     → label ≡ first ++ 45 ∷ other → next ≡ labels ++ label ∷ []
     → AreJoined firsts others labels i j → AreJoined firsts others next i (j + 1)
 one_joined_more firsts others labels next i j first other label hi hj at_i at_j is more h =
-    grind (arith, counted, got, length-all_choices, joined_at, label_of_both, long, one_label_more)
+    grind (arith, counted, slice_get-map, slice_get-get_or, length-all_choices, joined_at, label_of_both, long, one_label_more)
 
 pub row_joined : (firsts others labels : List (List ℕ)) (i j : ℕ) → j ≡ length others
     → AreJoined firsts others labels i j → AreJoined firsts others labels (i + 1) 0

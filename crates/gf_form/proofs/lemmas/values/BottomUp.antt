@@ -24,9 +24,6 @@ use Rattle.gf_form.proofs.lemmas.values.ValuesComputed.{payoff_above, each_actio
 
 -- ---- sums and products whose parts are the same
 
-plus_turned : (x y : Ratio) → plus x y ≡ plus y x
-plus_turned x y = grind arith
-
 plus_grouped : (x y z : Ratio) → plus (plus x y) z ≡ plus x (plus y z)
 plus_grouped x y z = grind (arith, add-*ℤ, *ℤ_assoc, +ℤ_assoc)
 
@@ -34,7 +31,7 @@ plus_none : (x : Ratio) → plus x zero_ratio ≡ x
 plus_none x = grind (arith, *ℤ-one, +ℤ_idr)
 
 none_plus : (x : Ratio) → plus zero_ratio x ≡ x
-none_plus x = grind (arith, plus_turned, plus_none)
+none_plus x = grind (arith, plus_none)
 
 times_turned : (x y : Ratio) → times x y ≡ times y x
 times_turned x y = grind (arith, *ℤ_comm)

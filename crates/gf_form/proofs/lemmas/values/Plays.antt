@@ -229,11 +229,6 @@ module _ (choices : SetKey → ℕ) where
       → SameOrPart p q
   different n key j k below above p q at differ ep eq hp hq = grind (arith, part_here)
 
-  alike_child : (n : Node) (k : ℕ) (below above p q : Play) → from_node n k below ≡ p
-      → from_node n k above ≡ q → (Follows below → Follows above → SameOrPart below above)
-      → Follows p → Follows q → SameOrPart p q
-  alike_child n k below above p q ep eq alike hp hq = grind (arith, part_after)
-
   module _ (g : Game) where
     mutual
       pub same_or_part : (t : Tree Node) → AllByRecursion (HasChildren g) (flatten t) → (p q : Play)
@@ -258,8 +253,7 @@ module _ (choices : SetKey → ℕ) where
                 elim (in_either first later q j) [
                   | inl j ↦
                       let b = mapped_from (from_node n k) (plays t) q j in
-                      alike_child n k a.0 b.0 p q a.2 b.2 (same_or_part t both.0 a.0 b.0 a.1 b.1)
-                      hp hq
+                      (grind (arith, part_after, a.2, b.2, same_or_part t both.0 a.0 b.0 a.1 b.1))
                   | inr j ↦
                       let c = taken_child ts n (k + 1) q j in
                       different n key k c.0 a.0 c.1 p q at (λ e. omega (arith, c.2)) a.2 c.3 hp hq

@@ -113,12 +113,6 @@ plus_agrees own f P (Some x) agree v =
     let sum = sum_agrees own x v f (is.0 p) in
     (λ h. h.2.1, (λ h. grind (arith, sum_agrees, agree h.0), λ e. (x, p, sum.1.1 e)))
 
--- a sum that is defined has defined parts
-parts_of : (p : Ratio) (o : Option Ratio) (sum next : Ratio)
-    → plus_of (Some sum) (times_of p o) ≡ Some next
-    → (x y : Ratio) × (o ≡ Some x) × (product_of p x ≡ Some y) × (sum_of sum y ≡ Some next)
-parts_of p o sum next h = grind arith
-
 -- a multiple is added to a sum, with which it goes on
 next_agrees : (p sum : Ratio) → IsFraction p → IsFraction sum → (P : Ratio → Type 0)
     (Q : Ratio → Ratio → Type 0) (o : Option Ratio) (later : Option Ratio → Option Ratio)
@@ -137,7 +131,7 @@ next_agrees p sum fp fs P Q o later agree stays v rest =
         → (x y next : Ratio) × P x × MultipliesTo p x y × AddsTo sum y next × Q next v
     from None e h = absurd cc
     from (Some next) e h =
-        let parts = parts_of p o sum next e in
+        let parts : (x y : Ratio) × (o ≡ Some x) × (product_of p x ≡ Some y) × (sum_of sum y ≡ Some next) = grind arith in
         let a = agree parts.0 in
         let is = a.1.1 parts.2 in
         let times = (product_agrees p parts.0 parts.1 fp (a.0 is)).1.1 parts.3 in

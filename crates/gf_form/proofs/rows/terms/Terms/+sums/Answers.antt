@@ -9,7 +9,7 @@ use Rattle.gf_form.proofs.rows.terms.Terms.+sums.Goals as goal
 
 pub summed-push_sums-requires : goal.summed-push_sums-requires
 summed-push_sums-requires t c =
-    grind (arith, none_ordered, first_step, faster_within, c.in_ok-push_part.ensures, c.clear-2.ensures.none, c.clear-2.ensures.players, c.list-list.ensures.players, c.clear.ensures.players, c.list-first.ensures.players)
+    grind (arith, none_ordered, first_step, faster_within, c.in_ok-push_part.ensures, c.clear-2.ensures.none, c.clear-2.ensures.players, c.list-list.ensures, c.clear.ensures.players, c.list-first.ensures)
 
 pub summed-push_part-requires-clause-may : goal.summed-push_part-requires-clause-may
 summed-push_part-requires-clause-may t c =

@@ -16,8 +16,8 @@ returns-in_err-weigh-in-Chance-clause-overflow c h =
     let lacks = c.in_err-weigh-in-Chance.ensures.overflow (grind arith) in
     (lacks.0, grind (arith, below_players), rw c.in-Chance.is (grind (arith, none_stays)))
 
-pub returns-in_ok-give_back-in-Chance-clause-overflow :
-    goal.returns-in_ok-give_back-in-Chance-clause-overflow
-returns-in_ok-give_back-in-Chance-clause-overflow c h =
+pub returns-in_ok-push-in-Chance-clause-overflow :
+    goal.returns-in_ok-push-in-Chance-clause-overflow
+returns-in_ok-push-in-Chance-clause-overflow c h =
     let lacks = c.draw.ensures.overflow h in
     (lacks.0, lacks.1, rw c.in-Chance.is (grind (arith, lacks.2)))
