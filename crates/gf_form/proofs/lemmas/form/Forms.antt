@@ -217,8 +217,7 @@ module _ (labels : ℕ → List (List ℕ)) (R : List ℕ → List Ratio → Typ
     × ArePayoffs g choices row)
     (right : AreRowsAt R ps payoffs) where
   each_full : (p : List ℕ) (row : List Ratio) → R p row → length row ≡ length g.players
-  each_full p row h = as_many _ row (players_of g) (paid p row h).1
-      ∙ length-numbers_from 1 (length g.players)
+  each_full p row h = grind (arith, as_many, length-numbers_from)
 
   each_fraction : (p : List ℕ) (row : List Ratio) → R p row → AllByRecursion IsFraction row
   each_fraction p row h = all_first IsFraction _ row (players_of g) (paid p row h).1

@@ -64,8 +64,7 @@ module _ (g : Game) (r : Renumbering) (game : IsGame g) (is : IsRenumbering g r)
 
   tests_carried : (k key : SetKey) → Has (used_sets g.tree) k → Has (used_sets g.tree) key
       → same_set (renumbered_set r k) (renumbered_set r key) ≡ same_set k key
-  tests_carried k key i j = same_tests same_set same_set same_set_equality same_set_equality
-      (renumbered_set r) k key (sets_apart g r is k key i j)
+  tests_carried k key i j = grind (arith, same_tests, same_set_equality, sets_apart)
 
   -- what a player's strategy chooses at a set
   pub strategy_carried : (player : ℕ) (strategy : List ℕ) (key : SetKey)
@@ -118,9 +117,16 @@ module _ (g : Game) (r : Renumbering) (game : IsGame g) (is : IsRenumbering g r)
   profiles_carried =
       λ i. profiles (map (λ player. length (strategies_carried player i)) (players_of g))
 
+  paid_carried : (profile : List ℕ) (player : ℕ)
+      → payoff h (choices_by h (strategies_at h profile)) player
+      ≡ payoff g (choices_by g (strategies_at g profile)) player
+  paid_carried profile player =
+      ap (λ all. payoff h (choices_by h all) player) (strategies_at_carried profile)
+      ∙ payoff_carried (strategies_at g profile) player
+
   right_carried : ArePayoffsAt h ≡ ArePayoffsAt g
   right_carried = λ i profile payoffs. AllZip
-      (λ paid player. IsFraction paid × IsEqual paid ((ap (λ all. payoff h (choices_by h all) player) (strategies_at_carried profile) ∙ payoff_carried (strategies_at g profile) player) i)) payoffs
+      (λ paid player. IsFraction paid × IsEqual paid (paid_carried profile player i)) payoffs
       (players_of g)
 
   value_at_carried : (profile : List ℕ) (player : ℕ) (value : Ratio)
@@ -141,14 +147,18 @@ module _ (g : Game) (r : Renumbering) (game : IsGame g) (is : IsRenumbering g r)
   form_carried labels others R S e f t = grind (arith, positions, profiles, strategies, subst₂)
 
   strategic_carried : (t : Table) → IsStrategicForm g t ↔ IsStrategicForm h t
-  strategic_carried = form_carried (strategy_labels g) (strategy_labels h) (ArePayoffsAt g)
-      (ArePayoffsAt h) (λ i player. map strategy_label (strategies_carried player i)) right_carried
+  strategic_carried = grind (arith, form_carried, strategies_carried, right_carried)
 
   -- ---- relevant sets
 
   -- its set is one of the game's
   abbrev HasUsed : Node → Type 0
   HasUsed n = (key : SetKey) → n.set ≡ Some key → Has (used_sets g.tree) key
+
+  all_used : AllByRecursion (OnPlay HasUsed) (plays g.tree)
+  all_used = on_plays HasUsed g.tree
+      (all_of_each (λ (e : Listed Node). HasUsed e.node) (flatten g.tree)
+      (λ e i key at. held (λ (n : Node). n.set) (flatten g.tree) e key i at))
 
   module _ (player : ℕ) (strategy : List ℕ) where
     abbrev c : SetKey → ℕ
@@ -167,7 +177,7 @@ module _ (g : Game) (r : Renumbering) (game : IsGame g) (is : IsRenumbering g r)
 
     relevant_carried : (key : SetKey) → Has (used_sets g.tree) key
         → is_relevant h d (renumbered_set r key) ≡ is_relevant g c key
-    relevant_carried key used = grind (arith, on_plays HasUsed g.tree (all_of_each (λ (e : Listed Node). HasUsed e.node) (flatten g.tree) (λ e i key at. held (λ (n : Node). n.set) (flatten g.tree) e key i at)), any_carried, comes_carried, plays_carried)
+    relevant_carried key used = grind (arith, all_used, any_carried, comes_carried, plays_carried)
 
     -- ---- reduced strategies
 
@@ -224,16 +234,14 @@ module _ (g h : Game) (game : IsGame g) (game' : IsGame h) (same : SameGame g h)
   pub same_values : (all : List (List ℕ)) (player : ℕ) (value : Ratio)
       → IsValue g (choices_by g all) player g.tree value
       ↔ IsValue h (choices_by h all) player h.tree value
-  same_values all player value = alike_in (λ x. IsValue x (choices_by x all) player x.tree value)
-      (value_carried g same.0 game same.1.renumbering all player value)
+  same_values all player value = grind (arith, alike_in, value_carried)
 
   pub same_forms : (t : Table) → IsStrategicForm g t ↔ IsStrategicForm h t
   same_forms t = over (λ x. IsStrategicForm g t ↔ IsStrategicForm x t)
       (strategic_carried g same.0 game same.1.renumbering t)
 
   pub same_overflow : (position : ℕ) → OverflowsAt g position ↔ OverflowsAt h position
-  same_overflow position = alike_in (λ x. OverflowsAt x position)
-      (overflow_carried g same.0 game same.1.renumbering position)
+  same_overflow position = grind (arith, alike_in, overflow_carried)
 
   pub same_reduced_forms : (t : Table) → IsReducedForm g t ↔ IsReducedForm h t
   same_reduced_forms t = over (λ x. IsReducedForm g t ↔ IsReducedForm x t)
@@ -241,8 +249,7 @@ module _ (g h : Game) (game : IsGame g) (game' : IsGame h) (same : SameGame g h)
 
   pub same_reduced_overflow : (position : ℕ)
       → ReducedOverflowsAt g position ↔ ReducedOverflowsAt h position
-  same_reduced_overflow position = alike_in (λ x. ReducedOverflowsAt x position)
-      (reduced_overflow_carried g same.0 game same.1.renumbering position)
+  same_reduced_overflow position = grind (arith, alike_in, reduced_overflow_carried)
 
 pub ruleset same_by_pure = (
   carried_is_renumbered,

@@ -163,9 +163,7 @@ module _ (g : Game) (game : IsGame g) (player : ℕ)
   his_one own set same known =
       let place = among_own g player own set same known in
       let actions = all_one (action_counts g player) place.place one in
-      let choice = said_there (player_keys g player) only place.place own
-      (keys_distinct g game player) place.there in
-      grind (arith, actions, place.count, place.within, choice, length-map)
+      grind (arith, length-map, said_there, keys_distinct)
 
   all_relevant : (key : SetKey) → Has (player_keys g player) key
       → is_relevant g (choice_at (player_keys g player) only) key ≡ true
@@ -227,8 +225,7 @@ module _ (g : Game) (game : IsGame g) (spellable : IsSpellable g) (player : ℕ)
   some_agrees : (t : Tree Node) → AllByRecursion (HasChildren g) (flatten t)
       → (p : Play) × Has (plays t) p × Agrees p
   some_agrees t children =
-      let one = some_play_in g game spellable everybody everybody_acts t children in
-      (one.0, one.1, steps_own one.0.steps one.2)
+      grind (arith, steps_own, some_play_in g game spellable everybody everybody_acts t children)
 
   -- ---- a play that comes to a set, on from there by the strategy
 

@@ -63,10 +63,7 @@ module _ {K : Type 0} (same : K → K → Bool) (tells : IsEquality same) (ks : 
 first_there : (counts s : List ℕ) (q : ℕ) → IsChoice counts s → q < length s → ¬ (get_or s q 0 ≡ 1)
     → IsChoice counts (set s q 1) × (place counts (set s q 1) < place counts s)
 first_there (count ∷ counts) (a ∷ s) zero h less other =
-    let some = (at_its_place counts s h.1).0 in
-    let up : 1 * product counts ≤ (a - 1) * product counts =
-    mul-le-mul_right (product counts) (omega (arith, h.0.0, other)) in
-    (((omega arith, omega (arith, h.0.0, h.0.1)), h.1), omega (arith, up, some))
+    search (rules, at_its_place, mul-le-mul_right)
 first_there (count ∷ counts) (a ∷ s) (suc q) h less other =
     grind (arith, first_there counts s q h.1 (omega (arith, less)) other)
 first_there [] [] q h less other = absurd (omega (arith, less))
@@ -89,11 +86,9 @@ place_upto : (counts : List ℕ) (fs gs : List Bool) (s t : List ℕ) → length
 place_upto (n ∷ counts) (f ∷ fs) (g ∷ gs) (a ∷ s) (b ∷ t) ef eg hs ht first e =
     let here = first 0 (omega arith) in
     let upto : a ≤ b = grind arith in
-    let up : (a - 1) * product counts ≤ (b - 1) * product counts =
-    mul-le-mul_right (product counts) (omega (arith, upto)) in
-    let later = place_upto counts fs gs s t (omega (arith, ef)) (omega (arith, eg)) hs.1 ht.1
-    (λ k less. first (suc k) (omega (arith, less))) (grind arith) in
-    omega (arith, up, later)
+    let later = place_upto counts fs gs s t (omega (arith, ef)) (omega (arith, eg)) hs.1 ht.1 (λ k
+    less. first (suc k) (omega (arith, less))) (grind arith) in
+    grind (arith, mul-le-mul_right)
 place_upto counts fs gs s t ef eg hs ht first e = grind arith
 
 -- what is shown, by keys
@@ -327,14 +322,12 @@ module _ (g : Game) (firsts : List (List ℕ)) (numbers : List ℕ)
 
   pub reduced_values : AllByRecursion (HasValues g) (numbered_profiles g numbers)
       → AllByRecursion (HasReducedValues g) (reduced_profiles g)
-  reduced_values = all_alike (HasValues g) (HasReducedValues g) (numbered_profiles g numbers)
-      (reduced_profiles g) their_values
+  reduced_values = search (rules, all_alike, their_values)
 
   pub reduced_overflow : (position : ℕ)
       → IsFirstWithout (HasValues g) (numbered_profiles g numbers) position
       → ReducedOverflowsAt g position
-  reduced_overflow position = first_alike (HasValues g) (HasReducedValues g)
-      (numbered_profiles g numbers) (reduced_profiles g) position their_values
+  reduced_overflow position = search (rules, first_alike, their_values)
 
 -- ---- the form
 

@@ -147,9 +147,7 @@ module _ {g : Game} {player : ℕ} where
   pub still_found : {test : ℕ → Found → Bool} {some : List Found} {before after : Relevance}
       → Marked test some before after → (all : List Found) → AreFound g player before all
       → AreFound g player after all
-  still_found {test} {some} {before} {after} marked all found =
-      let weaker = all_weaker (IsFound g player before) (IsFound g player after) in
-      grind (arith, weaker, marked.sets, marked.room)
+  still_found {test} {some} {before} {after} marked all found = grind (arith, all_weaker)
 
   pub part_found : {r : Relevance} (all done rest own : List Found) (k : ℕ) → all ≡ done ++ rest
       → own ≡ take k rest → AreFound g player r all → AreFound g player r own
@@ -232,10 +230,9 @@ any_at : (p : Found → Bool) (all : List Found) (at : ℕ) → at < length all
     → ((k : ℕ) → k < length all → (get_or all k no_found).place ≡ k)
     → list_any (λ f. f.place == at && p f) all ≡ p (get_or all at no_found)
 any_at p all at less placed =
-    let some = list_any_at (λ f. f.place == at && p f) all at no_found less in
     let none = list_any_none (λ f. f.place == at && p f) all in
     let each = All-from_get_or (λ f. (f.place == at && p f) ≡ false) all no_found in
-    grind (arith, nat_tests, cases_Bool (p (get_or all at no_found)), some, none, each, placed, cases_eq)
+    grind (arith, cases_Bool, cases_eq, list_any_at)
 
 -- each strategy has a row if sets are marked under all that are listed
 pub rows_marked : {g : Game} {player : ℕ} {digits : List OwnDigit} {numbers : List ℕ} {level : Level}

@@ -111,17 +111,13 @@ module _ (g : Game) where
   pub some_full : (profile : List ℕ) → Contains (reduced_profiles g) profile → (full : List ℕ)
       × Contains (full_profiles g) full × (reduced_by g full ≡ reduced_at g profile)
   some_full profile i =
-      let one = full_of_all (players_of g) profile
-      ((every_profile (reduced_counts (players_of g)) profile).0 i) in
-      (one.0, (every_profile (full_counts (players_of g)) one.0).1 one.1, one.2)
+      grind (arith, every_profile, full_of_all (players_of g) profile ((every_profile (reduced_counts (players_of g)) profile).0 i))
 
   -- and the one to which a full profile reduces
   pub some_reduced : (full : List ℕ) → Contains (full_profiles g) full → (profile : List ℕ)
       × Contains (reduced_profiles g) profile × (reduced_by g full ≡ reduced_at g profile)
   some_reduced full i =
-      let one = reduced_of_all (players_of g) full
-      ((every_profile (full_counts (players_of g)) full).0 i) in
-      (one.0, (every_profile (reduced_counts (players_of g)) one.0).1 one.1, one.2)
+      grind (arith, every_profile, reduced_of_all (players_of g) full ((every_profile (full_counts (players_of g)) full).0 i))
 
   -- ---- the form
 
@@ -148,8 +144,7 @@ module _ (g : Game) where
 
 pub some_reduced_label : (g : Game) → IsGame g → (player : ℕ) → 0 < length (reduced_labels g player)
 some_reduced_label g game player =
-    let s = reduced_of g player 1 (omega arith) (some_strategy g game player) in
-    omega (arith, s.1, s.2, length-map (reduced_strategies g player) reduced_label)
+    grind (arith, length-map, reduced_of g player 1 (omega arith) (some_strategy g game player))
 
 pub reduced_is_table : (g : Game) (t : Table) → IsGame g → IsReducedForm g t → IsTable t
 reduced_is_table g t game =
@@ -215,7 +210,7 @@ module _ (g : Game) (player : ℕ) where
       let t = get_or all j [] in
       let hs = small_strategy small s (there all i [] hi) in
       let ht = small_strategy small t (there all j [] hj) in
-      grind (arith, each_once, decimal_injective, AreDigits, digits_of, same_joined, undashed_number)
+      grind (arith, each_once, decimal_injective, digits_of, same_joined, undashed_number)
 
 -- ---- profiles
 

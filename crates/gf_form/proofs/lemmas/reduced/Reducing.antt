@@ -93,10 +93,9 @@ module _ (g : Game) (player : ℕ) where
         → AreEqualOn (is_other player) c d rest → comes_to c key rest ≡ comes_to d key rest
     comes_same key own [] equal = refl
     comes_same key own (s ∷ rest) equal =
-        let same = step_same (is_other player) c d s rest equal in
-        let later = λ (his : is_own_choice c player s ≡ true).
-        comes_same key own rest (equal_later (is_other player) c d s rest equal his) in
-        grind (arith, same, later)
+        let later = λ (his : is_own_choice c player s ≡ true). comes_same key own rest (equal_later
+        (is_other player) c d s rest equal his) in
+        grind (arith, step_same)
 
     any_same : (p q : Play → Bool) (ps : List Play) → ((x : Play) → Has ps x → p x ≡ q x)
         → list_any p ps ≡ list_any q ps
@@ -147,13 +146,10 @@ module _ (g : Game) where
   strategies_of players profile =
       map (λ p. strategy_at (strategies g p.0) p.1) (zip players profile)
 
-  abbrev reduce_all : List ℕ → List ℕ → List (List (Option ℕ))
-  reduce_all players profile =
-      map (λ p. reduced g p.0 p.1) (zip players (strategies_of players profile))
-
   reduced_there : (k n : ℕ) (p : List ℕ) (i : ℕ)
       → reduced g (k + i) (get_or (strategies_of (numbers_from k n) p) i [])
-      ≡ get_or (reduce_all (numbers_from k n) p) i (reduced g (k + i) [])
+      ≡ get_or (map (λ r. reduced g r.0 r.1)
+      (zip (numbers_from k n) (strategies_of (numbers_from k n) p))) i (reduced g (k + i) [])
   reduced_there k (suc n) (s ∷ p) (suc i) = grind (arith, reduced_there (k + 1) n p i)
   reduced_there k n p i = grind arith
 

@@ -32,8 +32,7 @@ pub digit_more : (counts steps : List ℕ) (i step : ℕ) (made next : List OwnD
 digit_more counts steps i step made next are less several step_is is before =
     let long : i < length steps = omega (arith, ap length are, steps_long 1 counts) in
     let count = next_is counts i (get_or counts i 0) 0 less refl in
-    let there = next_is steps i step 0 long step_is in
-    grind (arith, append_assoc, count, there)
+    grind (arith, append_assoc, next_is)
 
 pub digit_past : (counts steps : List ℕ) (i : ℕ) (made next : List OwnDigit) → steps
     ≡ steps_after 1 counts → i < length counts → get_or counts i 0 ≤ 1 → next ≡ made → made
@@ -210,9 +209,8 @@ none_found_yet g player numbers none = grind arith
 pub firsts_are : {p : Player} → IsPlayer p → (numbers : List ℕ)
     → AreFoundTo p.game.now p.number numbers p.whole → AreFirstsOf p.game.now numbers p.number
 firsts_are {p} is numbers found =
-    let all = strategies p.game.now p.number in
-    let whole = subst (AreFoundTo p.game.now p.number numbers)
-    (is.whole ∙ sym (length-all_choices (action_counts p.game.now p.number))) found in
-    (rw (take_past (length all) all (omega arith)) at whole.are, whole.within)
+    let whole = subst (AreFoundTo p.game.now p.number numbers) (is.whole ∙ sym (length-all_choices
+    (action_counts p.game.now p.number))) found in
+    grind (arith, take_past)
 
 pub ruleset start_steps = (actions_positive, width_fits, few_digits, none_found_yet)

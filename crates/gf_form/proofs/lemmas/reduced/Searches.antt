@@ -51,14 +51,11 @@ module _ {g : Game} {player count : ℕ} {d : OwnDigit} {faster : List OwnDigit}
   parts : (n : ℕ) → n < length (strategies g player) → choices_at g player (d ∷ faster) n
       ≡ (n % count / each + 1) ∷ get_or (all_choices (actions_of faster)) (n % each) []
   parts n within =
-      let below : n % count < d.actions * product (actions_of faster) =
-      omega (arith, mod-lt n count_some, turn.counted) in
+      let below : n % count < d.actions * product (actions_of faster) = omega (arith, mod-lt n count_some, turn.counted) in
       let whole : count ≡ d.actions * each = cc (turn.counted, each_is) in
-      let same : n % count % each ≡ n % each =
-      mod-mod_of_dvd each n
-      (subst (λ (m : ℕ). each ∣ m) (sym whole) (dvd-mul_left each d.actions)) in
-      let next = choices_next d.actions (actions_of faster) (n % count) some_each below in
-      grind (arith, turn.chosen n within, next, each_is, same)
+      let same : n % count % each ≡ n % each = mod-mod_of_dvd each n (subst (λ (m : ℕ). each ∣ m)
+      (sym whole) (dvd-mul_left each d.actions)) in
+      grind (arith, each_is, choices_next, some_each)
 
   -- the action at the digit
   pub chosen_here : (n : ℕ) → n < length (strategies g player)
@@ -125,9 +122,7 @@ module _ {p : Player} {d : OwnDigit} {faster : List OwnDigit} {level : Level}
       let end = row_end before less in
       let here = chosen_here below.turn n (omega (arith, to, end, below.end)) in
       let over = left_over n (omega (arith, from)) (omega (arith, to, end)) in
-      let is : n - number ≡ before * row + (n - number - before * row) = omega (arith, from) in
-      here ∙ ap (λ m. m / row + 1) (over ∙ is)
-      ∙ ap (λ m. m + 1) (div-mul-add before row (n - number - before * row) (omega (arith, from, to)))
+      grind (arith, div-mul-add)
 
   pub next_searched : (before : ℕ) → before < d.actions → {left : Level}
       → IsLevel (length level.known.items) left → {action : ℕ} → action ≡ before + 1
@@ -167,8 +162,7 @@ unmet_by place steps choices (v ∷ visits) e = grind (arith, unmet_by place ste
 
 -- with no digit left, each visit comes about
 pub left_all : (place : ℕ) (level : Level) → is_left place [] [] level ≡ can_be_met place level
-left_all place level = λ i. get_or level.known.items place false
-    || list_any (λ (v : Visit). and-true (v.set == place) i) level.visits.items
+left_all place level = grind (arith, and-true)
 
 -- ---- digits
 
@@ -257,7 +251,13 @@ module _ {p : Player} (is : IsPlayer p) where
           let early : j < depth = omega (arith, inside, taken) in
           let among : j < length digits = omega (arith, early, below.deep) in
           passed_by g is.is_game p.number numbers number count found below.end
-          (λ n from to. (repeated g is.is_game p.number n (digit_at digits j).place (within_all n to) (place_inside j among) (grind (arith, (unmet_flag n j from to among (sym (get_or-take depth met j false early) ∙ shut)))) (grind (arith, nat_tests, (unmet_flag n j from to among (sym (get_or-take depth met j false early) ∙ shut))))))
+          (λ n from to. (repeated g is.is_game p.number n (digit_at digits j).place (within_all n
+          to) (place_inside j among) (grind (arith, (unmet_flag n j from to among (sym (get_or-take depth met j false early) ∙ shut)))) (grind (
+            arith,
+            nat_tests,
+            (unmet_flag n j from to
+                among (sym (get_or-take depth met j false early) ∙ shut)),
+          ))))
 
       -- if no digit is left, and all sets are met, the only one is found
       pub last_firsts : left ≡ []

@@ -86,9 +86,8 @@ module _ (g : Game) (game : IsGame g) (player : ℕ) where
     choice_is : (key : SetKey) (set : InformationSet) → set_at g key ≡ Some set → owns key ≡ true
         → (1 ≤ choice_at keys strategy key) × (choice_at keys strategy key ≤ length set.actions)
     choice_is key set is his =
-        let here = own_among key set is his in
         let there = said strategy key set is his in
-        grind (arith, zip_at, there, here.count, here.within, wide, length-map)
+        grind (arith, zip_at, wide, length-map, own_among)
 
     own_digits_are : AreDigits g owns (own_step g player all) (choice_at keys strategy)
         (picked counts counts) (picked counts strategy)
@@ -102,11 +101,8 @@ module _ (g : Game) (game : IsGame g) (player : ℕ) where
     is_his : asked.player ≡ player
     is_his = (own_set g player asked (has_at keys place asked there)).3
 
-    abbrev is_its : Option Visit → Bool
-    is_its visit = option_map_or (λ visit. visit.set == place) visit false
-
-    is_asked : (o : Option SetKey) → is_its (option_and_then (own_visit g player 0) o)
-        ≡ option_map_or (same_set asked) o false
+    is_asked : (o : Option SetKey) → option_map_or (λ (v : Visit). v.set == place)
+        (option_and_then (own_visit g player 0) o) false ≡ option_map_or (same_set asked) o false
     is_asked None = refl
     is_asked (Some key) =
         let same = same_place keys place asked key (keys_distinct g game player) there in

@@ -38,16 +38,14 @@ added_through digits least from list old new first h = record {
 
 -- ---- at each action
 
-abbrev pub IsBetween : ℕ → ℕ → Term → Type 0
-IsBetween low high e = (low ≤ e.head.demands) × (e.head.demands < high)
-
 -- while the actions are gone through
 pub record Summing (faster : List ℕ) (es : List Term) (least done : ℕ) (old new : List Term)
     : Type 0 where
   pub sums : List Term
   pub is : new ≡ old ++ map (raised least) sums
   pub within : AllByRecursion
-      (IsBetween (product (spans faster)) ((done + 1) * product (spans faster))) sums
+      (λ e. (product (spans faster) ≤ e.head.demands)
+      × (e.head.demands < (done + 1) * product (spans faster))) sums
   pub add_up : AddUpTo (done ∷ faster) es sums
 
 pub first_summing : (faster : List ℕ) (es : List Term) (least : ℕ) (old : List Term)
@@ -101,7 +99,15 @@ module _ (faster : List ℕ) (es : List Term) (least done : ℕ) (old now new : 
 
     -- at the new one, those before it do
     at_latest : AddsUpAt (done + 1)
-    at_latest exact = let c = done + 1 in let steps = steps_of faster in let parts = all_parts (IsExactAt den (step ∷ steps) (c ∷ choices)) before.sums own exact in let low : ComeTo den steps choices more.sums (step ∷ steps) (c ∷ choices) own = come_moved den steps choices (step ∷ steps) (c ∷ choices) (IsFree step) (λ e. e.head.demands + c * step) (raised_met step c steps choices (omega arith)) more.sums more.within parts.1 in let one = more.add_up den choices valid low.exact in grind (arith, sum_append, come_none, other_unmet, all_weaker)
+    at_latest exact =
+        let c = done + 1 in
+        let steps = steps_of faster in
+        let parts = all_parts (IsExactAt den (step ∷ steps) (c ∷ choices)) before.sums own exact in
+        let low : ComeTo den steps choices more.sums (step ∷ steps) (c ∷ choices) own = come_moved
+        den steps choices (step ∷ steps) (c ∷ choices) (IsFree step) (λ e. e.head.demands + c *
+        step) (raised_met step c steps choices (omega arith)) more.sums more.within parts.1 in
+        let one = more.add_up den choices valid low.exact in
+        grind (arith, sum_append, come_none, other_unmet, all_weaker)
 
   adds_up : AddUpTo ((done + 1) ∷ faster) es (before.sums ++ own)
   adds_up den [] valid = absurd valid

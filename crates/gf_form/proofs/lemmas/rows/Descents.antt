@@ -167,7 +167,12 @@ module _ {g : Game} {owns : SetKey → Bool} {steps choose : SetKey → ℕ} {ac
         else if same then Some (h.demands s) else None)) [])
         (option_map_or (λ s. chosen_by s t)
         (if comes then Some (h.below g n (free s) k (h.demands (free s))) else None) [])
-    child_kept t n s ds step action k comes true same tree has led e f = let d = (h.demands s + k * step) % 2 ^ 64 in let small = pack_below actions led.next led.within in let fits : d ≡ pack actions led.next = grind (arith, mod-eq_of_lt) in let own = tree (h.below g n s k d) led.next (laws.demands_are n s k d ∙ fits, led.within) in grind (arith, eqb-true)
+    child_kept t n s ds step action k comes true same tree has led e f =
+        let d = (h.demands s + k * step) % 2 ^ 64 in
+        let small = pack_below actions led.next led.within in
+        let fits : d ≡ pack actions led.next = grind (arith, mod-eq_of_lt) in
+        let own = tree (h.below g n s k d) led.next (laws.demands_are n s k d ∙ fits, led.within) in
+        grind (arith, eqb-true)
     child_kept t n s ds step action k comes false true tree has led e f =
         let d = h.demands s in
         let own = tree (h.below g n s k d) ds (laws.demands_are n s k d ∙ has.0, has.1) in

@@ -172,7 +172,8 @@ own_digit : (counts xs : List ℕ) (j : ℕ) → length xs ≡ length counts →
     → ¬ (get_or (steps_after 1 counts) j 0 ≡ 0)
     → ArePlaced (steps_of (picked counts counts)) (picked counts counts) (picked counts xs)
     (get_or (steps_after 1 counts) j 0) (get_or counts j 0) (get_or xs j 0)
-own_digit (suc (suc n) ∷ counts) (x ∷ xs) (suc j) same less some = grind (arith, behind, own_digit counts xs j (omega (arith, same)) (omega (arith, less)) some)
+own_digit (suc (suc n) ∷ counts) (x ∷ xs) (suc j) same less some =
+    grind (arith, behind, own_digit counts xs j (omega (arith, same)) (omega (arith, less)) some)
 own_digit (suc zero ∷ counts) (x ∷ xs) (suc j) same less some =
     own_digit counts xs j (omega (arith, same)) (omega (arith, less)) some
 own_digit (zero ∷ counts) (x ∷ xs) (suc j) same less some =
@@ -222,7 +223,8 @@ pub among_all : (all counts xs : List (List ℕ)) (i step count choice : ℕ)
     → ArePlaced (in_order all) (in_order counts) (in_order xs) step count choice
 among_all (s ∷ all) (n ∷ counts) (x ∷ xs) zero step count choice one other h =
     grind (arith, as_long, length-append, get_or-append-add)
-among_all (s ∷ all) (n ∷ counts) (x ∷ xs) (suc i) step count choice one other h = grind (arith, as_long, length-append, get_or_append_left, among_all all counts xs i step count choice (cc) (cc) h)
+among_all (s ∷ all) (n ∷ counts) (x ∷ xs) (suc i) step count choice one other h =
+    grind (arith, as_long, length-append, get_or_append_left, among_all all counts xs i step count choice (cc) (cc) h)
 among_all [] [] xs i step count choice one other h = absurd (omega (arith, h.within))
 among_all all counts xs i step count choice one other h = absurd cc
 

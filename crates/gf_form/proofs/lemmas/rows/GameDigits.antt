@@ -114,7 +114,17 @@ stride_divides [] i less = absurd (omega arith)
 pub choice_by_stride : (counts : List ℕ) (number i : ℕ) → number < product counts
     → i < length counts → get_or (get_or (all_choices counts) number []) i 0
     ≡ number / get_or (strides_of counts) i 0 % get_or counts i 0 + 1
-choice_by_stride (n ∷ counts) number (suc i) less within = let p = product counts in let parts = positive_parts n p number less in let there : i < length counts = omega (arith, within) in let divides = stride_divides counts i there in let step = get_or (strides_of counts) i 0 in let c = get_or counts i 0 in let above : 0 < step = (positive_parts step c 0 (pos_of_dvd_of_pos divides parts.1)).0 in let later = choice_by_stride counts (number % p) i (mod-lt number parts.1) there in let same = faster_part (number / p) p (number % p) step c above divides in grind (arith, choices_next, mod-add-div)
+choice_by_stride (n ∷ counts) number (suc i) less within =
+    let p = product counts in
+    let parts = positive_parts n p number less in
+    let there : i < length counts = omega (arith, within) in
+    let divides = stride_divides counts i there in
+    let step = get_or (strides_of counts) i 0 in
+    let c = get_or counts i 0 in
+    let above : 0 < step = (positive_parts step c 0 (pos_of_dvd_of_pos divides parts.1)).0 in
+    let later = choice_by_stride counts (number % p) i (mod-lt number parts.1) there in
+    let same = faster_part (number / p) p (number % p) step c above divides in
+    grind (arith, choices_next, mod-add-div)
 choice_by_stride counts number i less within =
     grind (arith, positive_parts, div-lt_iff_lt-mul, choices_next, mod-eq_of_lt)
 

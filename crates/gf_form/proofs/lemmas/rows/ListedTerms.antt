@@ -82,7 +82,12 @@ nodes_more : (g : Game) (players : ℕ) (rs group : List Path) (es : List Term) 
     → (0 < e.head.den → (k : ℕ) → k < players
     → HasShares g group k e.head.den e.head.size (number_at (suc k) e))
     → AreTermsOf g players rs es → AreTermsOf g players (rs ++ group) (es ++ e ∷ [])
-nodes_more g players rs group es e alike says before k less den steps choices exact = let both = all_parts (IsExactAt den steps choices) es (e ∷ []) exact in let told = before k less den steps choices both.0 in let here = nodes_told g k den steps choices group e alike (λ above. says above k less) both.1.0 in grind (arith, shares_append, sum_append, bounds_append, size_append, map-append, all_both)
+nodes_more g players rs group es e alike says before k less den steps choices exact =
+    let both = all_parts (IsExactAt den steps choices) es (e ∷ []) exact in
+    let told = before k less den steps choices both.0 in
+    let here = nodes_told g k den steps choices group e alike (λ above. says above k less) both.1.0
+    in
+    grind (arith, shares_append, sum_append, bounds_append, size_append, map-append, all_both)
 
 -- what the code reads at a place
 abbrev pub no_node : Path

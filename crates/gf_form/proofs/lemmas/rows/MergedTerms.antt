@@ -123,7 +123,14 @@ module _ (x y : Ratio) (m n : ℤ) (s : ℕ) (hx : IsFraction x) (hy : IsFractio
   same_den = grind (arith, mul_above, add-*ℤ, *ℤ_assoc)
 
   is_sum : IsSum whole x y
-  is_sum = grind (arith, is_equal whole (m +ℤ n) s whole_fraction.den_above_zero above (lowest_of-value (m +ℤ n) s above) then back same_den then back (plus_both x (over_den m s) y (over_den n s) (is_equal x m s hx.den_above_zero above vx) (is_equal y n s hy.den_above_zero above vy)))
+  is_sum =
+      let chain : IsEqual whole (plus x y) =
+      is_equal whole (m +ℤ n) s whole_fraction.den_above_zero above
+      (lowest_of-value (m +ℤ n) s above)
+      then back same_den
+      then back (plus_both x (over_den m s) y (over_den n s)
+      (is_equal x m s hx.den_above_zero above vx) (is_equal y n s hy.den_above_zero above vy)) in
+      chain.crosswise
 
   -- a sum over one denominator fits, and is over it
   pub sum_over : (r : Ratio) × (sum_of x y ≡ Some r) × IsFraction r × HasValue r (m +ℤ n) s

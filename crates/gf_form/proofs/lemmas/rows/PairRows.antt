@@ -221,7 +221,9 @@ next_written asked before written after row within right values is nodes done =
     let at = numbered_at g asked.numbers.now before within in
     record {
       rows = grind (arith, one_row_more);
-      values = (rw (take_more profiles before [] at.0) (all_both (HasValues g) (take before profiles) (get_or profiles before [] ∷ []) done.values ((rw at.1 values), tt)));
+      values =
+          (rw (take_more profiles before [] at.0) (all_both (HasValues g) (take before profiles)
+          (get_or profiles before [] ∷ []) done.values ((rw at.1 values), tt)));
       nodes = nodes;
     }
 

@@ -44,7 +44,10 @@ module _ (den : ℕ) (above : 0 < den) (steps choices : List ℕ) where
 module _ (k den most : ℕ) (above : 0 < den) (steps choices : List ℕ) where
   over_most : (z : ℤ) (d : ℕ) → d ≡ den → d ∣ most
       → (z *ℤ pos (most / d)) *ℤ pos den ≡ (z *ℤ pos (den / d)) *ℤ pos most
-  over_most z d same divides = let own : most / d * den ≡ most = rw (sym same) (div-mul_cancel d divides) in let one : den / d ≡ 1 = rw same (div_self above) in grind (arith, *ℤ_assoc)
+  over_most z d same divides =
+      let own : most / d * den ≡ most = rw (sym same) (div-mul_cancel d divides) in
+      let one : den / d ≡ 1 = rw same (div_self above) in
+      grind (arith, *ℤ_assoc)
 
   one_scaled : (b : Bool) (z : ℤ) (d : ℕ) → d ≡ den → (b ≡ true → (0 < d) × (d ∣ most))
       → (if b then z *ℤ pos (most / d) else pos 0) *ℤ pos den
@@ -209,7 +212,8 @@ module _ (g : Game) (rows : List (List Ratio)) (are : ArePaid g rows) (k : ℕ) 
           → ComeAsWell (terms (r ∷ rs)) (terms (if b then r ∷ fs else fs))
       by true is = come_both (terms (r ∷ [])) _ (terms rs) (terms fs) (same_come (terms (r ∷ [])))
       by false is = come_both (terms (r ∷ [])) [] (terms rs) (terms fs)
-          ((rw (sym (are.paid_is r.outcome k) ∙ empty_row (row_at rows r.outcome) (grind arith) k) (grind (arith, one-dvd, none_first, no_number))))
+          ((rw (sym (are.paid_is r.outcome k) ∙ empty_row (row_at rows r.outcome) (grind arith) k)
+          (grind (arith, one-dvd, none_first, no_number))))
 
 -- ---- what the terms settle
 

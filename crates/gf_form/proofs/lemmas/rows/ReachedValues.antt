@@ -51,7 +51,8 @@ module _ (den : ℕ) (den_above : 0 < den) (den_within : den < 2 ^ 127) (by : �
   sum_part : (x y : Ratio) (m n : ℤ) → IsFraction x → IsFraction y → IsPart den by x m
       → IsPart den by y n → IsWithin m → IsWithin n → IsWithin (m +ℤ n)
       → (r : Ratio) × (sum_of x y ≡ Some r) × IsFraction r × IsPart den by r (m +ℤ n)
-  sum_part x y m n fx fy (inl px) (inl py) hm hn hs = grind (arith, sum_over x y m n (den / by) fx fy (quotient_above by den den_above px.0) (left_within px.0) px.1 py.1 hm hn hs)
+  sum_part x y m n fx fy (inl px) (inl py) hm hn hs =
+      grind (arith, sum_over x y m n (den / by) fx fy (quotient_above by den den_above px.0) (left_within px.0) px.1 py.1 hm hn hs)
   sum_part x y m n fx fy (inr px) py hm hn hs = grind (arith, zero_plus)
   sum_part x y m n fx fy (inl px) (inr py) hm hn hs = grind (arith, plus_zero, +ℤ_idr)
 
@@ -94,7 +95,8 @@ module _ (g : Game) (player den : ℕ) where
   Fits rs = FitsAt g player den [] [] rs
 
   pub fits_parts : (xs ys : List Path) → Fits (xs ++ ys) → Fits xs × Fits ys
-  fits_parts xs ys fits = grind (arith, bounds_append, all_parts (IsExactAt den [] []) (node_terms g player xs) (node_terms g player ys) (rw map-append at fits.exact))
+  fits_parts xs ys fits =
+      grind (arith, bounds_append, all_parts (IsExactAt den [] []) (node_terms g player xs) (node_terms g player ys) (rw map-append at fits.exact))
 
   -- where nothing is added, the value counts for nothing, or is zero
   pub zero_valued : {pay : Ratio} (path : Path) (rs : List Path) → IsFraction pay
@@ -130,7 +132,8 @@ module _ (g : Game) (player den : ℕ) where
         amount_is = λ some. sum.3;
         shares_are = shares_append g player den [] [] xs ys
             ∙ (λ i. x.shares_are i +ℤ y.shares_are i)
-            ∙ sym ((*ℤ_comm (pos weight) (x.amount +ℤ y.amount) ∙ add-*ℤ x.amount y.amount (pos weight) ∙ (λ i. *ℤ_comm x.amount (pos weight) i +ℤ *ℤ_comm y.amount (pos weight) i)));
+            ∙ sym ((*ℤ_comm (pos weight) (x.amount +ℤ y.amount) ∙ add-*ℤ x.amount y.amount (pos
+            weight) ∙ (λ i. *ℤ_comm x.amount (pos weight) i +ℤ *ℤ_comm y.amount (pos weight) i)));
         size = omega (arith, x.size, y.size, both, lists);
       }
 
@@ -219,9 +222,6 @@ module _ (g : Game) (player den : ℕ) where
     abbrev part : ℤ
     part = c.num *ℤ h.amount
 
-    part_below : unsigned_abs part * path.bound ≤ bounds xs
-    part_below = grind (arith, ap (λ k. k * path.bound) (unsigned_abs-mul c.num h.amount))
-
     product : (r : Ratio) × (product_of c h.ratio ≡ Some r) × IsFraction r
         × IsPart den path.den r part
     product = by (a == 0) refl
@@ -235,7 +235,7 @@ module _ (g : Game) (player den : ℕ) where
             let likely = eqb-false a 0 is in
             product_part den fits.den_above_zero fits.den_within path.den c h.ratio h.amount fc
             h.fraction (h.amount_is (mul_above path.bound a some (omega (arith, likely))))
-            (within_part part path.bound (bounds xs) some part_below fits.within)
+            (within_part part path.bound (bounds xs) some (grind (arith, ap (λ k. k * path.bound) (unsigned_abs-mul c.num h.amount))) fits.within)
 
     pub times_valued : IsValued (times_of c value) path xs
     times_valued = record {
@@ -245,7 +245,7 @@ module _ (g : Game) (player den : ℕ) where
       amount = part;
       amount_is = λ some. product.3;
       shares_are = cc (h.shares_are, *ℤ_assoc (pos path.weight) (pos a) h.amount, sign);
-      size = part_below;
+      size = (grind (arith, ap (λ k. k * path.bound) (unsigned_abs-mul c.num h.amount)));
     }
 
 -- ---- the value of a tree is the sum of the shares of the nodes that choices reach

@@ -52,10 +52,9 @@ pub in_turn : {A : Type 0} (f : ℕ → A) (k : ℕ) (xs : List A) (d : A)
 in_turn f k [] d each = refl
 in_turn f k (x ∷ xs) d each =
     let start : k ≡ k + 0 = omega arith in
-    let here : f k ≡ x = ap f start ∙ each 0 (omega arith) in
-    let others = in_turn f (k + 1) xs d (λ i h. let next : k + 1 + i ≡ k + suc i = omega arith in
-    ap f next ∙ each (suc i) (omega arith)) in
-    λ i. here i ∷ others i
+    let others = in_turn f (k + 1) xs d (λ i h. let next : k + 1 + i ≡ k + suc i = omega arith in ap
+    f next ∙ each (suc i) (omega arith)) in
+    grind arith
 
 -- ---- lists of one length, one after another
 
@@ -104,8 +103,7 @@ pub zip_counted : {A : Type 0} (R : A → ℕ → Type 0) (d : A) (xs : List A) 
 zip_counted R d xs n h k less =
     let long = AllZip-long R xs (positions n) h in
     let there = get_or-numbers_from 1 n k 0 (omega (arith, less, long, length-numbers_from 1 n)) in
-    let number : get_or (positions n) k 0 ≡ k + 1 = omega (arith, there) in
-    subst (R (get_or xs k d)) number (zip_at R d 0 xs (positions n) h k less)
+    grind (arith, zip_at, there)
 
 pub all_right : {A B : Type 0} (R : A → B → Type 0) (P : B → Type 0)
     → ((x : A) (y : B) → R x y → P y) → (xs : List A) (ys : List B) → AllZip R xs ys

@@ -19,15 +19,12 @@ profile_at : (count : ℕ) (counts : List ℕ) (number rest : ℕ) → number < 
     ≡ (number + 1) ∷ get_or (profiles counts) rest []
 profile_at count counts number rest less below =
     let others = get_or (profiles counts) rest [] in
-    let row = row_at (λ (others : List ℕ). map (λ s. s ∷ others) (positions count)) count
-    (λ others. length-map (positions count) (λ s. s ∷ others) ∙ length-numbers_from 1 count)
-    (profiles counts) rest number [] [] (omega (arith, below, length-profiles counts)) less in
-    let first = get_or-map (λ (s : ℕ). s ∷ others) (positions count) number 0 []
-    (omega (arith, less, length-numbers_from 1 count)) in
-    let strategy : get_or (positions count) number 0 ≡ number + 1 =
-    omega (arith, get_or-numbers_from 1 count number 0 less) in
+    let row = row_at (λ (others : List ℕ). map (λ s. s ∷ others) (positions count)) count (λ others.
+    length-map (positions count) (λ s. s ∷ others) ∙ length-numbers_from 1 count) (profiles counts)
+    rest number [] [] (omega (arith, below, length-profiles counts)) less in
+    let first = get_or-map (λ (s : ℕ). s ∷ others) (positions count) number 0 [] (omega (arith, less, length-numbers_from 1 count)) in
     let at : number + count * rest ≡ rest * count + number = omega arith in
-    rw at (row ∙ first ∙ ap (λ (s : ℕ). s ∷ others) strategy)
+    grind (arith, get_or-numbers_from)
 
 -- ---- their numbers
 
@@ -122,5 +119,4 @@ numbered_strategies g (player ∷ players) number less =
     let parts = positive_parts (length all) (product counts) number less in
     let later = (div-lt_iff_lt-mul parts.0).1 (rw mul_comm at less) in
     let others = numbered_strategies g players (number / length all) later in
-    let next : get_or (profiles ((length all) ∷ counts)) number [] ≡ (number % (length all) + 1) ∷ get_or (profiles counts) (number / (length all)) [] = grind (arith, mul_comm, less, mod-add-div, profile_at, parts.0) in
-    grind (arith, is, next, others, add-one, unwrap_or-slice_get)
+    grind (arith, add-one, unwrap_or-slice_get, mul_comm, mod-add-div, profile_at)

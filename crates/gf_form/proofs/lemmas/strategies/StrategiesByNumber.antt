@@ -39,8 +39,7 @@ joined_at xs ys i j hi hj =
     let f = choice_there xs i hi in
     let b = choice_there ys j hj in
     let both = both_choices xs ys _ _ f.0 b.0 in
-    let number = both.1 ∙ (λ k. f.1 k * product ys + b.1 k) in
-    grind (arith, at_its_place, number)
+    grind (arith, at_its_place)
 
 -- ---- one action after another
 
@@ -61,8 +60,7 @@ goes_on counts number i stride rest count strategy h less is =
     let whole : stride ≡ count * product others = h.stride_is ∙ ap product next in
     let below : rest < count * product others = subst (λ (n : ℕ). rest < n) whole h.below in
     let parts = positive_parts count (product others) rest below in
-    let divided = ap (λ (n : ℕ). n / count) whole ∙ mul-div_cancel_left (product others) parts.0 in
-    grind (arith, next, whole, below, parts, divided, add-one, mod-lt, append_assoc, choices_next)
+    grind (arith, add-one, mod-lt, append_assoc, choices_next, mul-div_cancel_left)
 
 -- ---- labels
 
@@ -193,10 +191,8 @@ pub labels_differ : (counts : List ℕ) (i j : ℕ) → AreSmall counts → i < 
 labels_differ counts i j small hi hj e =
     let at = λ (k : ℕ) (less : k < length (all_choices counts)). small_choice counts _ small
     (choice_there counts k (rw length-all_choices at less)).0 in
-    let s = at i hi in
     let t = at j hj in
-    choices_distinct counts i j [] hi hj (same_joined decimal (λ n. n < 2 ^ 64) undashed_number
-    decimal_injective _ _ (s.1 ∙ sym t.1) s.0 t.0 e)
+    grind (arith, choices_distinct, same_joined, undashed_number, decimal_injective)
 
 -- ---- texts
 

@@ -33,17 +33,11 @@ plus_none x = grind (arith, *ℤ-one, +ℤ_idr)
 none_plus : (x : Ratio) → plus zero_ratio x ≡ x
 none_plus x = grind (arith, plus_none)
 
-times_turned : (x y : Ratio) → times x y ≡ times y x
-times_turned x y = grind (arith, *ℤ_comm)
-
-times_grouped : (x y z : Ratio) → times (times x y) z ≡ times x (times y z)
-times_grouped x y z = grind (arith, *ℤ_assoc)
-
 pub times_once : (x : Ratio) → times x one_ratio ≡ x
 times_once x = grind (arith, *ℤ-one)
 
 pub once_times : (x : Ratio) → times one_ratio x ≡ x
-once_times x = grind (arith, times_turned, times_once)
+once_times x = grind (arith, *ℤ_comm, times_once)
 
 -- what is the same as equal ratios is equal
 pub over : {w x y z : Ratio} → w ≡ x → IsEqual x y → y ≡ z → IsEqual w z
@@ -66,12 +60,12 @@ one_more c q a x s sum y next t hc hq ha hx hs hsum adds product sums =
     let product_equal : IsEqual y (times q x) = grind arith in
     let aq = times_above a q ha hq in
     let qx = times_above q x hq hx in
-    over (ap (plus (times c (plus (times a s) sum))) (times_grouped c q (plus a x)))
+    over (ap (plus (times c (plus (times a s) sum))) ((grind (arith, *ℤ_assoc))))
     (plus_right (times c (plus (times a s) sum)) (search mul_above)
     (times_right c hc (times_plus q a x hq ha hx))
     then back (times_plus c (plus (times a s) sum) (plus (times q a) (times q x)) hc
     (search mul_above) (search mul_above)))
-    (ap (λ r. times c (plus (plus (times a s) sum) (plus r (times q x)))) (times_turned q a))
+    (ap (λ r. times c (plus (plus (times a s) sum) (plus r (times q x)))) ((grind (arith, *ℤ_comm))))
     then times_right c hc (plus_across (times a s) sum (times a q) (times q x)
     (times_above a s ha hs) hsum aq qx then plus_both _ _ _ _
     (back (times_plus a s q ha hs hq) then times_right a ha (back (sum_equal s q t hs hq adds)))
@@ -167,7 +161,7 @@ module _ (g : Game) (choices : SetKey → ℕ) (player : ℕ) where
         ≡ (if b then shares (times chance (q n k)) (plus paid (own n)) ps else zero_ratio)
     after n k true e [] = refl
     after n k false e [] = refl
-    after n k true e (p ∷ ps) = grind (arith, after n k true e ps, times_grouped, plus_grouped)
+    after n k true e (p ∷ ps) = grind (arith, after n k true e ps, *ℤ_assoc, plus_grouped)
     after n k false e (p ∷ ps) = grind (arith, e, after n k false e ps, none_plus)
 
     joined : (xs ys : List Play)
@@ -187,9 +181,7 @@ module _ (g : Game) (choices : SetKey → ℕ) (player : ℕ) where
         → shares chance paid (plays_from n k ts) ≡ zero_ratio
     none_later n key k none at personal less = refl
     none_later n key k (more t ts) at personal less =
-        first n k false (is_other choices n key k at personal (λ same. omega arith)) t ts
-        ∙ none_plus (shares chance paid (plays_from n (k + 1) ts))
-        ∙ none_later n key (k + 1) ts at personal (omega arith)
+        grind (arith, first, is_other, none_plus, none_later n key (k + 1) ts)
 
   -- what plays pay is what is paid before them and the value
   abbrev pub Pays : Ratio → List Play → Type 0
@@ -354,22 +346,18 @@ module _ (g : Game) (game : IsGame g) (spellable : IsSpellable g) (choices : Set
   AreValues row = (k : ℕ) → k < length g.players
       → value_of g choices (suc k) g.tree ≡ Some (at_place row k)
 
-  has_value : (row : List Ratio) → AreValues row → (k : ℕ) → k < length g.players
-      → IsValue g choices (suc k) g.tree (at_place row k)
-  has_value row h k less = grind (arith, value_is)
-
   pub are_payoffs : (row : List Ratio) → length row ≡ length g.players
       → AllByRecursion IsFraction row → AreValues row → ArePayoffs g choices row
   are_payoffs row count fractions h =
       zip_in_turn _ zero_ratio row (length g.players) count (λ k less. (
         fraction_at row k fractions,
-        value_is_payoff g choices (suc k) game spellable (at_place row k) (has_value row h k less),
+        value_is_payoff g choices (suc k) game spellable (at_place row k) ((grind (arith, value_is))),
       ))
 
   pub have_values : (row : List Ratio) → AreValues row → HasValuesWith g choices
   have_values row h =
       all_in_turn HasValue 1 (length g.players) (λ k less.
-      let next : 1 + k ≡ suc k = omega arith in rw next (at_place row k, has_value row h k less))
+      let next : 1 + k ≡ suc k = omega arith in rw next (at_place row k, (grind (arith, value_is))))
 
   pub lacks_value : (k : ℕ) → k < length g.players → value_of g choices (suc k) g.tree ≡ None
       → HasValuesWith g choices → ⊥

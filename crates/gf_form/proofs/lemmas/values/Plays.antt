@@ -157,12 +157,9 @@ module _ (g h : Game) (c d : SetKey → ℕ) (player : ℕ) (f : Node → Node) 
 
 -- ---- a play's moves are the choices
 
-abbrev pub ChoosesMoves : (SetKey → ℕ) → List Step → Type 0
-ChoosesMoves choices steps = AllByRecursion
-    (λ s. (key : SetKey) → s.node.set ≡ Some key → 0 < key.player → choices key ≡ s.taken) steps
-
 pub chosen_moves : (choices : SetKey → ℕ) (steps : List Step)
-    → (list_all (is_chosen choices) steps ≡ true) ↔ ChoosesMoves choices steps
+    → (list_all (is_chosen choices) steps ≡ true) ↔ AllByRecursion
+    (λ s. (key : SetKey) → s.node.set ≡ Some key → 0 < key.player → choices key ≡ s.taken) steps
 chosen_moves choices [] = (λ h. tt, λ h. refl)
 chosen_moves choices (s ∷ steps) = grind (arith, chosen_moves choices steps)
 

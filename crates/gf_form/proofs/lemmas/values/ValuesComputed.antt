@@ -37,9 +37,7 @@ module _ (g : Game) (spellable : IsSpellable g) where
 
   pub probability_fraction : (s : Step) → IsFraction (probability g s)
   probability_fraction s =
-      let taken = each_action g IsSpellableAction s (λ key _. actions_of key) in
-      let one = whole_fraction 1 (omega arith) in
-      grind arith
+      grind (arith, each_action g IsSpellableAction s (λ key _. actions_of key), whole_fraction 1 (omega arith))
 
   paid_fraction : (player : ℕ) (o : Option Outcome)
       → IfSome o (λ outcome. AllByRecursion IsFraction outcome.payoffs) → IsFraction (unwrap_or
@@ -131,7 +129,8 @@ next_agrees p sum fp fs P Q o later agree stays v rest =
         → (x y next : Ratio) × P x × MultipliesTo p x y × AddsTo sum y next × Q next v
     from None e h = absurd cc
     from (Some next) e h =
-        let parts : (x y : Ratio) × (o ≡ Some x) × (product_of p x ≡ Some y) × (sum_of sum y ≡ Some next) = grind arith in
+        let parts : (x y : Ratio) × (o ≡ Some x) × (product_of p x ≡ Some y) × (sum_of sum y ≡ Some
+        next) = grind arith in
         let a = agree parts.0 in
         let is = a.1.1 parts.2 in
         let times = (product_agrees p parts.0 parts.1 fp (a.0 is)).1.1 parts.3 in

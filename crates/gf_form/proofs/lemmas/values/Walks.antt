@@ -34,8 +34,7 @@ place_is : (n : ℕ) (ns : List ℕ) (place : ℕ) → position (nat_eq n) ns �
     → slice_get ns place ≡ Some n
 place_is n ns place h =
     let there = position-Some (nat_eq n) ns place 0 h in
-    let same = eqb-true n (get_or ns place 0) there.1 in
-    slice_get-get_or ns place 0 there.0 ∙ ap Some (sym same)
+    grind (arith, slice_get-get_or, eqb-true)
 
 pub paid_is : (g : Game) (player : ℕ) (n : Node)
     → paid g player (paid_at_node g n) ≡ payoff_at g player n
@@ -284,10 +283,9 @@ less_left : (trees : List (Tree Node)) (n : ℕ) (d : Tree Node) → n < length 
 less_left trees n d less =
     let t = get_or trees n d in
     let size = λ (t : Tree Node). length (flatten t) in
-    let rest = drop-append-le (suc n) trees (child_trees t) (omega (arith, less)) in
     let both = sum_by-append size (drop (suc n) trees) (child_trees t) in
     let own = sum_by-cons size t (drop (suc n) trees) in
-    grind (arith, drop-cons, sizes_of, tree_size)
+    grind (arith, drop-cons, sizes_of, tree_size, drop-append-le)
 
 -- ---- one node more
 
@@ -320,11 +318,10 @@ pub child_there : (g : Game) (ns : Nodes) (at before first : ℕ) (node : Branch
 child_there g ns at before first node are there node_is less first_is =
     let ts = child_trees (tree_at g ns at) in
     let child = get_or ts before g.tree in
-    let tree : tree_of node ≡ tree_at g ns at =
-    ap tree_of node_is ∙ sym (get_or-map tree_of ns.branches.items at node g.tree there) in
+    let tree : tree_of node ≡ tree_at g ns at = ap tree_of node_is ∙ sym (get_or-map tree_of
+    ns.branches.items at node g.tree there) in
     let is = slice_get-get_or ts before g.tree (rw tree at less) in
-    let same_first : get_or ns.firsts.items at 0 ≡ first =
-    get_or_default ns.firsts.items at 0 first (omega (arith, there, are.one_each)) ∙ sym first_is in
+    let same_first : get_or ns.firsts.items at 0 ≡ first = get_or_default ns.firsts.items at 0 first
+    (omega (arith, there, are.one_each)) ∙ sym first_is in
     let stands = rw same_first at (are.children at there before child is) in
-    let same = get_or_from_slice_get (trees_in ns) (first + before) child g.tree stands in
-    grind (arith, slice_get_within, length-map)
+    grind (arith, slice_get_within, length-map, get_or_from_slice_get)

@@ -147,9 +147,5 @@ abbrev pub turns : {S : Type 0} → List (Open S) → ℕ
 turns [] = 0
 turns (o ∷ os) = open_turns o + turns os
 
-abbrev pub turns_before : {S : Type 0} → Option (Branch × S) → List (Open S) → ℕ
-turns_before None os = suc (turns os)
-turns_before (Some next) os = 0
-
 abbrev pub turns_left : {S : Type 0} → Descent S → ℕ
-turns_left d = turns_before d.next d.open.items
+turns_left d = option_map_or (λ next. 0) d.next (suc (turns d.open.items))
