@@ -6,10 +6,10 @@ use Common.{AreReducedPayoffsAt, first_uses_distinct, reduced_strategies, decima
 use Common.{reduced_profiles, get_or_default, reduced_labels, AllByRecursion, every_profile, length}
 use Common.{IsReducedForm, PaysFractions, full_profiles, strategies_at, reduced_label, mapped_from}
 use Common.{if◌then◌else◌, action_counts, same_choice, strategy_at, player_keys, AreDistinct, subst}
-use Common.{choice_text, is_relevant, length-map, reduced_at, reduced_by, choices_by, players_of, ℕ}
-use Common.{strategies, pointwise, IsProfile, map_twice, choice_at, AreDigits, Contains, was_used}
-use Common.{map_same, contains, Decides, is_used, has_map, reduced, IsTable, decimal, get_or, arith}
-use Common.{IsGame, SetKey, IfSome, Table, codes, List, None, refl, Game, Some, drop, ◌≡◌, ◌≤◌, ◌∷◌}
+use Common.{is_relevant, length-map, reduced_at, reduced_by, choices_by, players_of, ℕ}
+use Common.{strategies, pointwise, IsProfile, map_twice, choice_at, Contains, was_used}
+use Common.{map_same, contains, Decides, is_used, has_map, reduced, IsTable, get_or, arith}
+use Common.{IsGame, SetKey, IfSome, Table, List, None, refl, Game, Some, drop, ◌≡◌, ◌≤◌, ◌∷◌}
 use Common.{map, sym, ◌+◌, ◌∙◌, ◌↔◌, zip, Has, has, ◌<◌, ◌-◌, suc, ◌^◌, [], ap}
 use Rattle.std.proofs.lemmas.Slice.Eq.{slice_eq-Decides}
 use Rattle.gf_form.proofs.lemmas.strategies.Chosen.{strategy_before, strategy_there, every_choice}
@@ -20,7 +20,7 @@ use Rattle.gf_form.proofs.lemmas.form.Forms.{one_row, as_many, of_row, row_of}
 use Rattle.gf_form.proofs.lemmas.reduced.Reducing.{same_row}
 use Rattle.gf_form.proofs.lemmas.strategies.CountedActions.{some_strategy}
 use Rattle.gf_form.proofs.lemmas.strategies.StrategiesByNumber.{undashed_number, small_choice}
-use Rattle.gf_form.proofs.lemmas.strategies.StrategiesByNumber.{AreSmall, AreUndashed, same_joined}
+use Rattle.gf_form.proofs.lemmas.strategies.StrategiesByNumber.{AreSmall, same_joined}
 use Rattle.gf_form.proofs.lemmas.strategies.StrategiesByNumber.{digits_of}
 
 -- ---- positions

@@ -15,7 +15,7 @@ use Rattle.gf_form.specs.declared.reduced.first.Player.{Player}
 use Rattle.gf_form.proofs.lemmas.rows.GameDigits.{choice_at_number}
 use Rattle.gf_form.proofs.lemmas.strategies.CountedActions.{product_positive, action_within}
 use Rattle.gf_form.proofs.lemmas.strategies.Chosen.{length-all_choices, long}
-use Rattle.gf_form.proofs.lemmas.reduced.FirstStrategies.{IsRepeated, passed_by, repeated}
+use Rattle.gf_form.proofs.lemmas.reduced.FirstStrategies.{passed_by, repeated}
 use Rattle.gf_form.proofs.lemmas.rows.Digits.{next_is}
 use Rattle.gf_form.proofs.lemmas.strategies.StrategiesByNumber.{choices_next}
 

@@ -1,11 +1,11 @@
 -- Terms that are added up for each choice of an action at each digit.
 use Rattle.gf_form.proofs.Common
-use Common.{mul-le-mul_right, AllByRecursion, with_demands, CountsBelow, all_choices, first_terms}
+use Common.{mul-le-mul_right, AllByRecursion, with_demands, CountsBelow, all_choices}
 use Common.{AreExactAt, AreInOrder, actions_at, all_images, all_weaker, append-nil, map-append, Err}
 use Common.{AreMerged, EndsBelow, IsExactAt, all_parts, all_terms, map_twice, take_rest, AreAlike}
 use Common.{SettleBy, all_both, cases_lt, steps_of, lowered, product, ComeTo, get_or, length, Asked}
 use Common.{Digit, Terms, arith, meets, spans, subst, List, OnOk, Term, ints, part, refl, true, Run}
-use Common.{zero, ◌++◌, inl, inr, map, suc, sym, ◌*◌, ◌+◌, ◌-◌, ◌<◌, ◌∙◌, ◌∷◌, ◌≡◌, ◌≤◌, ◌⊎◌, [], ℕ}
+use Common.{◌++◌, inl, inr, map, sym, ◌*◌, ◌+◌, ◌-◌, ◌<◌, ◌∙◌, ◌∷◌, ◌≡◌, ◌≤◌, ◌⊎◌, [], ℕ}
 use Rattle.std.specs.Prelude.{Result, Ok}
 use Rattle.std.proofs.lemmas.List.{append_assoc}
 use Rattle.gf_form.specs.inner.rows.ChoiceSums.{AreActions, AreAddedUp, AddUpTo, HasSums, raised}

@@ -8,7 +8,7 @@ use Common.{is_personal, mod-add-div, player_keys, player_sets, steps_after, cho
 use Common.{mul-le-mul, option_map, players_of, strategies, strides_of, AreDigits, AreMadeOf, arith}
 use Common.{ArePlaced, Described, HasDigits, choice_at, none-some, slice_get, all_both, dvd_refl, ℕ}
 use Common.{in_order, mul_comm, same_set, take-map, add-one, product, Counts, Digits, IsGame, false}
-use Common.{SetKey, eq-eqb, get_or, length, mod-lt, picked, set_at, subst, width, Game, List, Some}
+use Common.{SetKey, eq-eqb, get_or, length, mod-lt, picked, set_at, width, Game, List, Some}
 use Common.{cond, find, refl, take, true, zero, ◌++◌, map, suc, sym, ◌%◌, ◌*◌, ◌+◌, ◌-◌, ◌/◌, ◌<◌}
 use Common.{◌^◌, ◌∙◌, ◌∣◌, ◌∷◌, ◌≡◌, ◌≤◌, [], ap}
 use Rattle.gf_form.proofs.lemmas.strategies.Chosen.{length-all_choices, strategy_before, IsChoice}

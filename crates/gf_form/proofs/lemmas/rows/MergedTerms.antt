@@ -8,8 +8,8 @@ use Common.{AreExactAt, ComeAsWell, IsFraction, append-nil, equal_refl, false≢
 use Common.{scaled_num, AreMerged, IsExactAt, IsProduct, all_parts, dvd_trans, lowest_of, mul_above}
 use Common.{number_at, plus_both, *ℤ_assoc, +ℤ_assoc, HasValue, IsWithin, all_both, IsSumOf, +ℤ_idl}
 use Common.{SumFits, lowered, zero-*ℤ, ComeTo, add-*ℤ, mod-lt, sum_of, ◌then◌, IsGcd, IsLcm, IsSum}
-use Common.{Ratio, arith, false, meets, subst, times, Bool, List, Some, Term, back, ints, plus, suc}
-use Common.{refl, true, zero, ◌*ℤ◌, ◌++◌, ◌+ℤ◌, sym, ◌%◌, ◌*◌, ◌+◌, ◌-◌, ◌/◌, ◌<◌, ◌^◌, ◌∙◌, ◌∣◌, ℕ}
+use Common.{Ratio, arith, false, meets, subst, times, List, Some, Term, back, ints, plus, suc}
+use Common.{refl, zero, ◌*ℤ◌, ◌++◌, ◌+ℤ◌, sym, ◌%◌, ◌*◌, ◌+◌, ◌-◌, ◌/◌, ◌<◌, ◌^◌, ◌∙◌, ◌∣◌, ℕ}
 use Common.{◌∷◌, ◌≡◌, ◌≤◌, ◌⊎◌, [], ap, ℤ}
 use Rattle.std.proofs.lemmas.Nat.Gcd.{IsGcd-from_zero, IsGcd-from_mod, IsGcd-swap, le_of_dvd}
 use Rattle.gf_fraction.proofs.Offered.{lowest_of-value, *-cancel_right, dvd_of_dvd-mul, same_parts}

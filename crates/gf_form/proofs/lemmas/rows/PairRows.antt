@@ -7,8 +7,8 @@ use Common.{AreNodesOf, AreWritten, HasPairRow, IsFraction, IsPaidPair, actions_
 use Common.{AreChosen, AreMerged, HasValues, HaveSteps, SettlesAt, all_terms, SettleBy}
 use Common.{all_both, at_place, cases_lt, steps_of, lowered, product, term_at, Chosen, IfSome, Game}
 use Common.{IsGame, get_or, length, Asked, Digit, Ratio, Scale, Terms, arith, meets, spans, value}
-use Common.{List, Some, Term, ints, lit<, part, true, zero, ◌*ℤ◌, ◌++◌, ◌+ℤ◌, inl, inr, map, pos, ℕ}
-use Common.{suc, ◌*◌, ◌+◌, ◌-◌, ◌/◌, ◌<◌, ◌^◌, ◌∙◌, ◌∷◌, ◌≡◌, ◌≤◌, ◌⊎◌, [], ap, ℤ}
+use Common.{List, Some, Term, ints, lit<, part, true, zero, ◌++◌, inl, inr, map, ℕ}
+use Common.{suc, ◌*◌, ◌+◌, ◌-◌, ◌/◌, ◌<◌, ◌^◌, ◌∙◌, ◌∷◌, ◌≡◌, ◌≤◌, ◌⊎◌, [], ap}
 use Rattle.gf_form.proofs.lemmas.form.Forms.{one_row_more}
 use Rattle.gf_form.specs.declared.rows.written.Written.{Written}
 use Rattle.gf_form.specs.inner.rows.Pairs.{ComeToPair, only_term, IsOnly, IsPair}
@@ -20,8 +20,6 @@ use Rattle.gf_form.proofs.lemmas.rows.MergedTerms.{sum_append}
 use Rattle.gf_form.proofs.lemmas.rows.FlatRows.{chosen_parts, part_next, part_past}
 use Rattle.gf_form.proofs.lemmas.strategies.PickedProfiles.{numbered_at}
 use Rattle.gf_form.proofs.lemmas.values.BottomUp.{are_payoffs, have_values}
-use Rattle.gf_form.proofs.Common.{profiles}
-use Rattle.gf_form.proofs.Common.{rows}
 use Rattle.gf_form.proofs.Common.{take}
 use Rattle.gf_form.proofs.Common.{take_more}
 use Rattle.gf_form.proofs.lemmas.strategies.StrategiesByNumber.{positive_parts}

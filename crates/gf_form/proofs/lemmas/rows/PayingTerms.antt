@@ -4,11 +4,11 @@ use Rattle.gf_form.proofs.Common
 use Common.{AreProfileNumbers, *ℤ-cancel_right, AllByRecursion, div-mul_cancel, digit_actions, Bool}
 use Common.{full_profiles, if◌then◌else◌, strategies_at, paid_reached, sum_of_terms, unsigned_abs}
 use Common.{IsSpellable, all_choices, first_terms, AreExactAt, AreInOrder, AreOrdered, AreTermsOf}
-use Common.{ComeAsWell, choices_by, node_terms, zero_ratio, HasDigits, SettlesAt, all_parts, Digits}
+use Common.{ComeAsWell, choices_by, node_terms, HasDigits, SettlesAt, all_parts, Digits}
 use Common.{all_terms, number_at, root_path, *ℤ_assoc, AreAlike, IsShaped, all_both, div_self, Game}
 use Common.{dvd_refl, steps_of, ArePaid, MayCome, Settles, add-one, is_paid, lowered, one-dvd, List}
-use Common.{reached, term_at, term_of, zero-*ℤ, Global, IsGame, add-*ℤ, get_or, length, pay_at, Vec}
-use Common.{row_at, Ratio, Terms, arith, false, meets, subst, Path, Term, ints, refl, true, zero, ℕ}
+use Common.{reached, term_at, zero-*ℤ, Global, IsGame, add-*ℤ, get_or, length, Vec}
+use Common.{row_at, Ratio, Terms, arith, false, subst, Path, Term, ints, refl, true, zero, ℕ}
 use Common.{◌*ℤ◌, ◌++◌, ◌+ℤ◌, map, pos, suc, sym, ◌*◌, ◌+◌, ◌-◌, ◌/◌, ◌<◌, ◌^◌, ◌∙◌, ◌∣◌, ◌∷◌, ◌≡◌}
 use Common.{◌≤◌, [], ap, ℤ}
 use Rattle.gf_fraction.proofs.Offered.{*ℤ_right_comm}

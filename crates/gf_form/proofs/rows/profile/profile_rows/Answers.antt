@@ -30,3 +30,12 @@ returns-clause-rows c = grind (arith, common_steps)
 
 pub returns-clause-values : goal.returns-clause-values
 returns-clause-values c = grind (arith, common_steps)
+
+pub new-requires-3 : goal.new-requires-3
+new-requires-3 c = grind (arith, common_steps)
+
+pub push_rows-requires-clause-due : goal.push_rows-requires-clause-due
+push_rows-requires-clause-due c = grind arith
+
+pub returns-in_err-push_rows-clause-overflow : goal.returns-in_err-push_rows-clause-overflow
+returns-in_err-push_rows-clause-overflow c = grind arith

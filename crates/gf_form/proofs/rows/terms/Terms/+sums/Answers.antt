@@ -103,3 +103,6 @@ push_each-overflow_mul-first t c = grind (arith, common_steps)
 
 pub push_each-push_sums-requires : goal.push_each-push_sums-requires
 push_each-push_sums-requires t c = grind (arith, common_steps)
+
+pub summed-push_part-requires-clause-order : goal.summed-push_part-requires-clause-order
+summed-push_part-requires-clause-order t c = grind (arith, none_ordered)
