@@ -20,8 +20,7 @@ use Rattle.gf_form.proofs.lemmas.form.Forms.{one_row, as_many, of_row, row_of}
 use Rattle.gf_form.proofs.lemmas.reduced.Reducing.{same_row}
 use Rattle.gf_form.proofs.lemmas.strategies.CountedActions.{some_strategy}
 use Rattle.gf_form.proofs.lemmas.strategies.StrategiesByNumber.{undashed_number, small_choice}
-use Rattle.gf_form.proofs.lemmas.strategies.StrategiesByNumber.{AreSmall, same_joined}
-use Rattle.gf_form.proofs.lemmas.strategies.StrategiesByNumber.{digits_of}
+use Rattle.gf_form.proofs.lemmas.strategies.StrategiesByNumber.{digits_of, AreSmall, same_joined}
 
 -- ---- positions
 

@@ -21,11 +21,10 @@ use Rattle.gf_form.proofs.lemmas.rows.Digits.{product_joined, in_order_more, fas
 use Rattle.gf_form.proofs.lemmas.rows.Digits.{among_all, as_long}
 use Rattle.std.proofs.Math.Nat.{dvd-mul_left_of_dvd}
 use Rattle.gf_form.proofs.lemmas.strategies.PickedProfiles.{numbered_strategies, numbered}
-use Rattle.gf_form.proofs.lemmas.strategies.StrategiesByNumber.{joined_at, all_at}
+use Rattle.gf_form.proofs.lemmas.strategies.StrategiesByNumber.{joined_at, all_at, positive_parts}
 use Rattle.gf_form.proofs.lemmas.strategies.Chosen.{profile_strategies, nothing_chosen, among_his}
 use Rattle.gf_form.proofs.lemmas.strategies.Chosen.{have_actions}
 use Rattle.gf_form.proofs.lemmas.values.Walks.{choice_there}
-use Rattle.gf_form.proofs.lemmas.strategies.StrategiesByNumber.{positive_parts}
 use Rattle.gf_form.proofs.lemmas.strategies.StrategiesByNumber.{choices_next}
 
 -- ---- the choices of the profile with a number

@@ -4,10 +4,10 @@ use Rattle.gf_form.proofs.Common
 use Common.{mul-le-mul_right, asked_profiles, mul-div_cancel, full_profiles, strategies_at, IsScale}
 use Common.{ArePayoffsAt, one_fraction, AreTermsFor, IsSpellable, all_choices, first_terms, Settles}
 use Common.{AreNodesOf, AreWritten, HasPairRow, IsFraction, IsPaidPair, actions_at, choices_by, Run}
-use Common.{AreChosen, AreMerged, HasValues, HaveSteps, SettlesAt, all_terms, SettleBy}
+use Common.{AreChosen, AreMerged, HasValues, HaveSteps, SettlesAt, all_terms, SettleBy, take}
 use Common.{all_both, at_place, cases_lt, steps_of, lowered, product, term_at, Chosen, IfSome, Game}
 use Common.{IsGame, get_or, length, Asked, Digit, Ratio, Scale, Terms, arith, meets, spans, value}
-use Common.{List, Some, Term, ints, lit<, part, true, zero, ◌++◌, inl, inr, map, ℕ}
+use Common.{List, Some, Term, ints, lit<, part, true, zero, ◌++◌, inl, inr, map, ℕ, take_more}
 use Common.{suc, ◌*◌, ◌+◌, ◌-◌, ◌/◌, ◌<◌, ◌^◌, ◌∙◌, ◌∷◌, ◌≡◌, ◌≤◌, ◌⊎◌, [], ap}
 use Rattle.gf_form.proofs.lemmas.form.Forms.{one_row_more}
 use Rattle.gf_form.specs.declared.rows.written.Written.{Written}
@@ -20,10 +20,7 @@ use Rattle.gf_form.proofs.lemmas.rows.MergedTerms.{sum_append}
 use Rattle.gf_form.proofs.lemmas.rows.FlatRows.{chosen_parts, part_next, part_past}
 use Rattle.gf_form.proofs.lemmas.strategies.PickedProfiles.{numbered_at}
 use Rattle.gf_form.proofs.lemmas.values.BottomUp.{are_payoffs, have_values}
-use Rattle.gf_form.proofs.Common.{take}
-use Rattle.gf_form.proofs.Common.{take_more}
-use Rattle.gf_form.proofs.lemmas.strategies.StrategiesByNumber.{positive_parts}
-use Rattle.gf_form.proofs.lemmas.strategies.StrategiesByNumber.{choices_row}
+use Rattle.gf_form.proofs.lemmas.strategies.StrategiesByNumber.{choices_row, positive_parts}
 
 -- ---- profiles at which the choice at the slowest digit is the same
 

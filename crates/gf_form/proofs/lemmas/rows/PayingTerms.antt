@@ -7,10 +7,9 @@ use Common.{IsSpellable, all_choices, first_terms, AreExactAt, AreInOrder, AreOr
 use Common.{ComeAsWell, choices_by, node_terms, HasDigits, SettlesAt, all_parts, Digits}
 use Common.{all_terms, number_at, root_path, *ℤ_assoc, AreAlike, IsShaped, all_both, div_self, Game}
 use Common.{dvd_refl, steps_of, ArePaid, MayCome, Settles, add-one, is_paid, lowered, one-dvd, List}
-use Common.{reached, term_at, zero-*ℤ, Global, IsGame, add-*ℤ, get_or, length, Vec}
 use Common.{row_at, Ratio, Terms, arith, false, subst, Path, Term, ints, refl, true, zero, ℕ}
 use Common.{◌*ℤ◌, ◌++◌, ◌+ℤ◌, map, pos, suc, sym, ◌*◌, ◌+◌, ◌-◌, ◌/◌, ◌<◌, ◌^◌, ◌∙◌, ◌∣◌, ◌∷◌, ◌≡◌}
-use Common.{◌≤◌, [], ap, ℤ}
+use Common.{◌≤◌, [], ap, ℤ, reached, term_at, zero-*ℤ, Global, IsGame, add-*ℤ, get_or, length, Vec}
 use Rattle.gf_fraction.proofs.Offered.{*ℤ_right_comm}
 use Rattle.gf_form.specs.inner.rows.Paying.{SettleAsWell, sizes_of, FitOver, IsOver, Kept}
 use Rattle.gf_form.proofs.lemmas.rows.FlatRows.{terms_count}

@@ -16,9 +16,8 @@ use Common.{ints, kept, more, none, refl, true, zero, ◌*ℤ◌, ◌++◌, ◌+
 use Common.{◌+◌, ◌/◌, ◌<◌, ◌^◌, ◌∙◌, ◌∣◌, ◌∷◌, ◌≡◌, ◌≤◌, ◌⊎◌, ap}
 use Rattle.std.proofs.Math.Nat.{eq-zero_of_zero-dvd, le-mul_of_pos_right}
 use Rattle.gf_form.specs.inner.rows.ReachedNodes.{demanding_path, has_room, is_sum, met_if, drawn}
-use Rattle.gf_form.proofs.lemmas.rows.MergedTerms.{quotient_of_product, quotient_above}
 use Rattle.gf_form.proofs.lemmas.rows.MergedTerms.{product_over, none_first, own_value, sum_over}
-use Rattle.gf_form.proofs.lemmas.rows.MergedTerms.{sum_size}
+use Rattle.gf_form.proofs.lemmas.rows.MergedTerms.{sum_size, quotient_of_product, quotient_above}
 use Rattle.gf_form.proofs.lemmas.rows.ListedTerms.{bounds_append, shares_append}
 use Rattle.gf_form.proofs.lemmas.values.ValuesComputed.{probability_fraction, payoff_fraction}
 use Rattle.gf_form.proofs.lemmas.values.ValuesComputed.{zero_fraction, chance_size, none_times}

@@ -9,8 +9,7 @@ use Common.{flat_map, mul_comm, profiles, product, AllZip, Counts, get_or, lengt
 use Common.{refl, zero, map, suc, sym, zip, ◌%◌, ◌*◌, ◌+◌, ◌/◌, ◌<◌, ◌∙◌, ◌∷◌, ◌≡◌, [], ap}
 use Rattle.gf_form.proofs.lemmas.strategies.Chosen.{length-all_choices, zip_by_places, all_in_turn}
 use Rattle.gf_form.proofs.lemmas.strategies.Chosen.{zip_flat, in_turn, row_at}
-use Rattle.gf_form.proofs.lemmas.strategies.StrategiesByNumber.{all_at}
-use Rattle.gf_form.proofs.lemmas.strategies.StrategiesByNumber.{positive_parts}
+use Rattle.gf_form.proofs.lemmas.strategies.StrategiesByNumber.{positive_parts, all_at}
 
 -- ---- the profile with a number
 
