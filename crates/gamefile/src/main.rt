@@ -3,7 +3,8 @@
 #![tactic(auto)]
 
 use arguments::request_given;
-use gf_run::{Counted, Erasing, HostInputs, Shown, answer, perform};
+use gf_jobs::{Erasing, HostInputs, Shown, answer, perform};
+use gf_run::Counted;
 use gf_words::{Input, Job, Paths, Request, WordsFault};
 use std::alloc::{AllocError, Global};
 use std::fs;

@@ -1,7 +1,4 @@
 pub mod Asked
 pub mod Errors
-pub mod Found
-pub mod Going
-pub mod Grouped
-pub mod GroupsText
+pub mod Offered
 pub mod Written

@@ -1,12 +1,5 @@
-pub mod Duplicates
 pub mod Faults
-pub mod LedTo
-pub mod Opening
-pub mod Performs
-pub mod Reports
 pub mod Run
 pub mod Streams
 pub mod Texts
 pub mod Transfers
-pub mod Wrapped
-pub mod inner

@@ -1,21 +1,17 @@
 -- What a run does: it reads its inputs whole, and then writes the text that answers their bytes.
-use Rattle.std.specs.Prelude.{◌≡◌, ◌⊎◌, ℕ, Bool, true, false, List, Result, Ok, Err, ⊤, MatchResult}
-use Rattle.std.specs.Result.{result_and}
+use Rattle.std.specs.Prelude.{◌≡◌, ◌⊎◌, Bool, true, false, ℕ, List, Result, Ok, Err, ⊤}
 use Rattle.gf_canon.specs.GameFile.{SameFile}
 use Rattle.gf_canon.specs.NamesAside.{IsTextBy}
 use Rattle.gf_canon.specs.SameBy.{SameBy}
 use Rattle.gf_canon.specs.declared.kind.FileKind.{FileKind}
 use Rattle.gf_token.specs.declared.names.Names.{Names}
 use Rattle.gf_form.specs.declared.forms.Strategies.{Strategies}
-use Rattle.gf_run.specs.Faults.{IsFaultOfBytes, IsFaultOfFile, IsFaultOfFiles, IsRefusal}
+use Rattle.gf_run.specs.Faults.{IsFaultOfBytes, IsFaultOfFiles, IsRefusal}
 use Rattle.gf_run.specs.Transfers.{IsNotRead, IsReadWhole, IsWriteFault, IsWritten}
 use Rattle.gf_run.specs.Streams.{Stream}
-use Rattle.gf_run.specs.Texts.{IsAnswer, IsFormText, IsHashOf, IsKindLine, IsLine, IsLineAndMap}
-use Rattle.gf_run.specs.Texts.{IsLineOf}
-use Rattle.gf_run.specs.declared.collections.line.FileLine.{FileLine}
+use Rattle.gf_run.specs.Texts.{IsAnswer, IsFormText, IsKindLine, IsLine, IsLineAndMap}
 use Rattle.gf_run.specs.declared.fault.RunFault.{RunFault}
 use Rattle.gf_run.specs.declared.fault.Which.{Which}
-use Rattle.gf_run.specs.declared.jobs.one_file.OneTask.{OneTask}
 
 -- For an input, or for two: `IsRead` says that it was read whole, and that these are its bytes, and
 -- `IsUnread` that it was not, and why.
@@ -44,11 +40,6 @@ module _ {A W : Type 0} (writer : Stream W) (Answers : A → List ℕ → Type 0
 
 -- ---- over one input
 
--- its canonical text is hashed
-abbrev pub ReadsHash : {R : Type 0} → Stream R → Names → Result (List ℕ) RunFault → R → R → Type 0
-ReadsHash reader names = Reads (IsReadWhole reader) (IsNotRead reader Which.Only)
-    (λ bytes result. MatchResult result (IsHashOf names bytes) (IsRefusal bytes)) (Unit {0})
-
 module _ {R W : Type 0} (reader : Stream R) (writer : Stream W) where
   abbrev pub Runs : {A : Type 0} → (A → List ℕ → List ℕ → Type 0) → (List ℕ → RunFault → Type 0)
       → Result A RunFault → R → R → W → W → Type 0
@@ -67,17 +58,6 @@ module _ {R W : Type 0} (reader : Stream R) (writer : Stream W) where
   -- `run_table` and `run_table_reduced`
   abbrev pub RunsTable : Strategies → Result ⊤ RunFault → R → R → W → W → Type 0
   RunsTable strategies = Runs (λ answer. IsFormText strategies) (IsFaultOfBytes strategies)
-
-  -- a run over one file by what is done with it; it returns no kind
-  abbrev pub RunsOne : OneTask → Result ⊤ RunFault → R → R → W → W → Type 0
-  RunsOne (OneTask.Canon names) = RunsCanonBy names
-  RunsOne OneTask.Check = λ result i i' o o'.
-      (kind : FileKind) × RunsCheck (result_and result (Ok kind)) i i' o o'
-  RunsOne (OneTask.Table strategies) = RunsTable strategies
-
-  -- `run_line`
-  abbrev pub RunsLine : FileLine → List ℕ → Result Bool RunFault → R → R → W → W → Type 0
-  RunsLine line name = Runs (IsLineOf line name) IsFaultOfFile
 
 -- ---- over two inputs
 

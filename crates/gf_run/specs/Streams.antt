@@ -1,9 +1,10 @@
 -- What a reader or a writer shows of itself, and what it was asked and answered, request by request.
 use Rattle.std.specs.Prelude.{◌≡◌, ◌≢◌, ◌⊎◌, ℕ, ◌+◌, ◌-◌, ◌^◌, ◌<◌, ◌≤◌, min, max, zero, suc, List}
-use Rattle.std.specs.Prelude.{[], ◌++◌, length, take, Option, Result, Ok, Err, MatchResult}
+use Rattle.std.specs.Prelude.{[], ◌++◌, length, take, Option, Some, Result, Ok, Err, MatchResult}
 use Rattle.std.specs.IoError.{error_kind}
 use Rattle.std.specs.declared.io.Error.{Error}
 use Rattle.std.specs.declared.io.ErrorKind.{ErrorKind}
+use Rattle.gf_run.specs.declared.streams.counted.Counted.{Counted}
 
 -- of a reader or a writer: the bytes that a reader has left or a writer holds, if it reports them;
 -- its count of failures; and what a request gives: `gives old bytes answer new` holds if a request
@@ -80,3 +81,28 @@ module _ {S : Type 0} (gives : S → List ℕ → Result ℕ Error → S → Typ
     more : (moved : List ℕ) (request : X) (bytes : List ℕ) (n : ℕ) (old mid new : S)
         → Transfers Has Asks moved old mid → Asks moved request → 0 < n
         → Moves (Has request) bytes n mid new → Transfers Has Asks (moved ++ take n bytes) old new
+
+-- ---- a reader or a writer that counts its failures
+
+-- the reader or writer that it wraps
+abbrev pub inner_of : {T : Type 0} → Counted T → T
+inner_of counted = counted.inner
+
+-- its count of failures
+abbrev pub failures_of : {T : Type 0} → Counted T → ℕ
+failures_of counted = counted.failures
+
+-- its last error
+abbrev pub last_of : {T : Type 0} → Counted T → Option Error
+last_of counted = counted.last_error
+
+-- what it shows: the bytes that the one that it wraps reports, and its own count and last error
+abbrev pub counting : {T : Type 0} → (T → Option (List ℕ)) → (ℕ → Result ℕ Error → ℕ → Type 0)
+    → Stream (Counted T)
+counting known Counts = record {
+  known = λ counted. known (inner_of counted);
+  count = failures_of;
+  gives = λ old _ answer new. Counts (failures_of old) answer (failures_of new)
+      × MatchResult answer
+      (λ _. last_of new ≡ last_of old) (λ error. last_of new ≡ Some error);
+}

@@ -1,14 +1,13 @@
--- What is written about files that are read: the line of one of several, the text of a table, and
--- whether two are the same.
-use Rattle.std.specs.Prelude.{◌≡◌, ◌≢◌, ◌↔◌, ℕ, Bool, true, false, IsTrue, nat_eq, ◌||◌, List, []}
-use Rattle.std.specs.Prelude.{◌∷◌, ◌++◌, codes, decimal, if◌then◌else◌}
-use Rattle.std.specs.List.{flat_map, list_any}
-use Rattle.hex.specs.Hex.{encode_lower}
-use Rattle.sha2.specs.Sha256.{sha256}
+-- What is written about files that are read: what one holds, the text of a table, and whether two are
+-- the same.
+use Rattle.std.specs.Prelude.{◌≡◌, ◌≢◌, ◌↔◌, ℕ, Bool, true, false, IsTrue, List, ◌++◌, codes, decimal}
+use Rattle.std.specs.List.{flat_map}
 use Rattle.gf_nfg.specs.Table.{Table}
 use Rattle.gf_nfg.specs.TableText.{table_text}
 use Rattle.gf_tree.specs.Renumbering.{Renumbering}
 use Rattle.gf_tree.specs.SameGame.{Carries, SameGame}
+use Rattle.gf_token.specs.declared.form_fault.FormFault.{FormFault}
+use Rattle.gf_token.specs.declared.names.Names.{Names}
 use Rattle.gf_canon.specs.CanonicalText.{SpellsWithin}
 use Rattle.gf_canon.specs.GameFile.{GameFile}
 use Rattle.gf_canon.specs.KindOfFile.{MeansFileOf}
@@ -16,47 +15,8 @@ use Rattle.gf_canon.specs.NamesAside.{IsTextBy}
 use Rattle.gf_canon.specs.Pairs.{renumbering_pairs}
 use Rattle.gf_canon.specs.declared.kind.FileKind.{FileKind}
 use Rattle.gf_canon.specs.declared.numbering.pairs.NumberPair.{NumberPair}
-use Rattle.gf_token.specs.declared.names.Names.{Names}
 use Rattle.gf_form.specs.Forms as forms
-use Rattle.gf_token.specs.declared.form_fault.FormFault.{FormFault}
 use Rattle.gf_form.specs.declared.forms.Strategies.{Strategies}
-use Rattle.gf_explain.specs.Shown.{shown_name}
-use Rattle.gf_words.specs.declared.job.LineEnd.{LineEnd}
-use Rattle.gf_run.specs.declared.collections.line.FileLine.{FileLine}
-
--- ---- a name
-
--- what ends a line
-abbrev pub end_text : LineEnd → List ℕ
-end_text LineEnd.LineFeed = codes "\n"
-end_text LineEnd.Null = 0 ∷ []
-
--- a line feed, a carriage return or a backslash
-abbrev pub is_escaped : ℕ → Bool
-is_escaped byte = nat_eq byte 10 || nat_eq byte 13 || nat_eq byte 92
-
--- a byte of a name, as `sha256sum` writes it
-abbrev pub byte_text : ℕ → List ℕ
-byte_text byte = if nat_eq byte 10 then codes "\\n" else if nat_eq byte 13 then codes "\\r"
-    else if nat_eq byte 92 then codes "\\\\" else byte ∷ []
-
--- a name: in a line that NUL ends, as it is
-abbrev pub name_text : LineEnd → List ℕ → List ℕ
-name_text LineEnd.LineFeed name = flat_map byte_text name
-name_text LineEnd.Null name = name
-
--- what the line of a name begins with: a backslash, if a byte of the name is escaped
-abbrev pub mark : LineEnd → List ℕ → List ℕ
-mark LineEnd.LineFeed name = if list_any is_escaped name then codes "\\" else []
-mark LineEnd.Null name = []
-
--- the line of a name, after a text that stands before it
-abbrev pub name_line : LineEnd → List ℕ → List ℕ → List ℕ
-name_line end before name = mark end name ++ before ++ name_text end name ++ end_text end
-
--- a text after the name of its file, as it is shown
-abbrev pub after_name : List ℕ → List ℕ → List ℕ
-after_name name text = shown_name name ++ codes ": " ++ text
 
 -- ---- the kind of a file
 
@@ -71,26 +31,10 @@ IsKindLine kind bytes text = MeansFileOf bytes kind × (text ≡ kind_line kind)
 
 -- ---- its canonical text
 
--- the bytes mean a file, and this is the hash of its canonical text
-pub record IsHashOf (names : Names) (bytes hash : List ℕ) : Type 0 where
-  pub text : List ℕ
-  pub is_text : IsTextBy names bytes text
-  pub is_hash : hash ≡ sha256 text
-
 -- the bytes mean a file, and this says whether they are its canonical text
 abbrev pub AreCanonical : Names → List ℕ → Bool → Type 0
 AreCanonical names bytes true = IsTextBy names bytes bytes
 AreCanonical names bytes false = (text : List ℕ) × IsTextBy names bytes text × (bytes ≢ text)
-
--- the text is what is written about a file of this name with these bytes; `good` is false if it is
--- named because something is against it
-abbrev pub IsLineOf : FileLine → List ℕ → Bool → List ℕ → List ℕ → Type 0
-IsLineOf FileLine.Kind name good bytes text = (good ≡ true) × ((kind : FileKind)
-    × MeansFileOf bytes kind × (text ≡ after_name name (kind_line kind)))
-IsLineOf (FileLine.Hash names end) name good bytes text = (good ≡ true) × ((hash : List ℕ)
-    × IsHashOf names bytes hash × (text ≡ name_line end (encode_lower hash ++ codes "  ") name))
-IsLineOf (FileLine.NotCanonical names) name good bytes text = AreCanonical names bytes good
-    × (text ≡ if good then [] else name_line LineEnd.LineFeed [] name)
 
 -- ---- the table of a file, which is the form of a tree by some strategies, or the table itself
 

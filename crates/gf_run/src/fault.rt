@@ -116,6 +116,7 @@ pub fn status(fault: &RunFault) -> u8
 }
 
 /// Whether a fault is about the second of two inputs.
+// No edit: `end_of` calls it and has one.
 pub fn is_of_second(fault: &RunFault) -> bool
     ensures { result ≡ is_of_second fault.now }
 {

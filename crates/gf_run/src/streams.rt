@@ -1,8 +1,6 @@
 //! Readers and writers: what is asked of them, again after an interruption, and what they count.
 
 pub mod counted;
-pub mod erasing;
-pub mod kept;
 pub mod last_error;
 pub mod sink;
 pub mod source;

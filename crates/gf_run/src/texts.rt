@@ -3,7 +3,6 @@
 pub mod answer;
 pub mod comparison;
 pub mod game;
-pub mod name;
 pub mod renumbering;
 pub mod report;
 pub mod table;

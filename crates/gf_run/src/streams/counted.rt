@@ -1,8 +1,8 @@
 //! A reader or a writer with a count of its failures.
 
 ghost use Rattle.std.specs.Prelude.{◌≡◌, None, refl};
-ghost use Rattle.gf_run.specs.Streams.{CountsPull, CountsPush};
-ghost use Rattle.gf_run.specs.Wrapped.{counting, failures_of, inner_of, last_of};
+ghost use Rattle.gf_run.specs.Streams.{CountsPull, CountsPush, counting, failures_of, inner_of};
+ghost use Rattle.gf_run.specs.Streams.{last_of};
 
 use crate::streams::last_error::LastError;
 use crate::streams::sink::Sink;

@@ -56,8 +56,12 @@ fn push_again<W: Sink>(output: &mut W, from: &[u8]) -> Result<usize, WriteFault>
     Err(WriteFault)
 }
 
-/// Writes all of `text`, which may be the next part of a longer one. If the writer fails, a prefix of
-/// it has been written.
+/// Writes all of `text`, which may be the next part of a longer one.
+///
+/// # Errors
+///
+/// `WriteFault` if the writer failed, was interrupted sixteen times in a row, or took nothing. A prefix
+/// of the text has been written then.
 pub fn push_all<W: Sink>(output: &mut W, text: &[u8]) -> Result<(), WriteFault>
     ensures all { OnOk result (IsWritten W.writer output.old output.new text.now) }
     ensures part { OnErr result (IsWriteFault W.writer output.old output.new text.now) }

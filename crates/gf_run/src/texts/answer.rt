@@ -16,6 +16,7 @@ pub struct Answer<A> {
 }
 
 /// An answer with a text that is whole.
+// No edit: it puts parts together.
 pub fn answer_with<A>(value: A, text: Vec<u8>) -> Answer<A>
     ensures value { result.value ≡ value }
     ensures text { result.text.rest ≡ text.items }
@@ -38,6 +39,12 @@ pub fn push_text<W: Sink>(output: &mut W, mut text: TextPieces) -> Result<(), Wr
 }
 
 /// Writes the text of an answer, if there is one, and returns what it says.
+///
+/// # Errors
+///
+/// - The fault of the answer, and then nothing is asked of the output.
+/// - `Write`: the writer failed, and a prefix of the text has been written.
+// No edit: `run_canon_by` calls it and has one.
 pub fn write_answer<A: Drop, W: Sink>(
     answer: Result<Answer<A>, RunFault>,
     output: &mut W,

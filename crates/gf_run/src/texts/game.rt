@@ -14,6 +14,11 @@ use gf_nfg::TextPieces;
 use std::alloc::Global;
 
 /// The canonical text of a file, with names or without.
+///
+/// # Errors
+///
+/// `Refused`, as `canonical_by` refuses the file.
+// No edit: it passes on `canonical_text`.
 pub fn canon(alloc: Global, bytes: &[u8], names: Names) -> Result<Answer<()>, RunFault>
     ensures { MatchResult result
         (λ answer. IsTextBy names bytes.now answer.text.rest) (IsRefusal bytes.now) }
@@ -39,6 +44,10 @@ fn are_text(bytes: &[u8], mut text: TextPieces) -> bool
 }
 
 /// Whether the bytes of a file are its canonical text, with names or without.
+///
+/// # Errors
+///
+/// Those of `canon`.
 pub fn are_canonical(alloc: Global, bytes: &[u8], names: Names) -> Result<bool, RunFault>
     ensures { MatchResult result (AreCanonical names bytes.now) (IsRefusal bytes.now) }
 {
@@ -47,6 +56,11 @@ pub fn are_canonical(alloc: Global, bytes: &[u8], names: Names) -> Result<bool, 
 }
 
 /// The kind of a file. No node of a tree is kept, and no text of a game is made.
+///
+/// # Errors
+///
+/// Those of `canon`.
+// No edit: it passes on `check`.
 pub fn kind_of(alloc: Global, bytes: &[u8]) -> Result<FileKind, RunFault>
     ensures { MatchResult result (MeansFileOf bytes.now) (IsRefusal bytes.now) }
 {

@@ -24,7 +24,8 @@ fn prefix_of(fault: &RunFault) -> &'static [u8]
 }
 
 /// The line of a fault, without its input and without its line feed.
-pub(crate) fn short_line_of(fault: &RunFault) -> Line
+// No edit: `line_of` calls it and has one.
+pub fn short_line_of(fault: &RunFault) -> Line
     ensures text { result ≡ short_line fault.now }
     ensures short { length result ≤ 70 }
 {
@@ -41,7 +42,7 @@ pub(crate) fn short_line_of(fault: &RunFault) -> Line
 }
 
 /// The line of a fault.
-pub(crate) fn line_of(fault: &RunFault) -> Line
+pub fn line_of(fault: &RunFault) -> Line
     ensures { result ≡ fault_line fault.now }
 {
     let mut line = Line::new();
@@ -58,6 +59,7 @@ pub(crate) fn line_of(fault: &RunFault) -> Line
 ///
 /// `WriteFault` if the writer failed, was interrupted sixteen times in a row, or took nothing. A
 /// prefix of the line has been written then.
+// No edit: it passes on `line_of`.
 pub fn write_fault<W: Sink>(fault: &RunFault, output: &mut W) -> Result<(), WriteFault>
     ensures all { OnOk result (IsWritten W.writer output.old output.new (fault_line fault.now)) }
     ensures part { OnErr result (IsWriteFault W.writer output.old output.new (fault_line fault.now)) }

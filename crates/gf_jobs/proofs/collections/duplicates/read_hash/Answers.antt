@@ -1,0 +1,11 @@
+use Rattle.gf_run.specs.Run.{read, unread}
+use Rattle.gf_run.proofs.Offered.{is_error}
+use Rattle.gf_jobs.proofs.collections.duplicates.read_hash.Goals as goal
+
+pub returns-in_err-bytes : goal.returns-in_err-bytes
+returns-in_err-bytes g c =
+    unread _ (is_error _ _ c.from_residual.ensures.1) c.in_err-bytes.ensures.part tt
+
+pub returns : goal.returns
+returns g c =
+    read _ c.in_ok-bytes.ensures.whole (rw c.as_slice.ensures.value at c.hash_of.ensures)

@@ -1,0 +1,17 @@
+use Rattle.gf_canon.specs.declared.kind.FileKind.{FileKind}
+use Rattle.gf_run.proofs.Offered.{is_error}
+use Rattle.gf_jobs.proofs.jobs.one_file.run_one.Goals as goal
+
+pub returns-in-Canon : goal.returns-in-Canon
+returns-in-Canon g c = rw c.in-Canon.is c.run_canon_by.ensures
+
+pub returns-in_ok-run_check-in-Check : goal.returns-in_ok-run_check-in-Check
+returns-in_ok-run_check-in-Check g c =
+    let ok = c.in_ok-run_check-in-Check in rw c.in-Check.is (ok.field-0, ok.ensures)
+
+pub returns-in_err-run_check-in-Check : goal.returns-in_err-run_check-in-Check
+returns-in_err-run_check-in-Check g c = rw (c.in-Check.is, is_error _ _ c.from_residual.ensures.1)
+    (FileKind.Tree, c.in_err-run_check-in-Check.ensures)
+
+pub returns-in-Table : goal.returns-in-Table
+returns-in-Table g c = rw c.in-Table.is c.run_form.ensures

@@ -1,0 +1,28 @@
+use Rattle.std.proofs.Common.{map, refl}
+use Rattle.std.specs.String.{string_bytes}
+use Rattle.gf_jobs.specs.Performs.{found, unlisted}
+use Rattle.gf_jobs.proofs.Reported.{told}
+use Rattle.gf_run.specs.declared.fault.RunFault.{RunFault}
+use Rattle.gf_jobs.proofs.jobs.session.Session.perform_all.Goals as goal
+
+pub returns-in-Ok-without_games-clause-performed : goal.returns-in-Ok-without_games-clause-performed
+returns-in-Ok-without_games-clause-performed g c =
+    let said = told g.E.Sink.writer _ _ _ c.push_all.result c.push_all.ensures.all
+    c.push_all.ensures.part in
+    found c.in-Ok.found.files.items (map string_bytes c.in-Ok.found.without_games.items) _
+    c.in-Ok.ensures.opened refl (rw c.repeats.ensures at c.in-Ok.ensures.files)
+    (rw (
+      c.as_slice-in-Ok-without_games.ensures.value,
+      c.in-Ok-without_games.ensures,
+      c.as_slice.ensures.value,
+    ) at said)
+    (rw c.as_slice-in-Ok-without_games-2.ensures.value at c.run_task.ensures.done)
+
+pub returns-in-Ok-clause-performed : goal.returns-in-Ok-clause-performed
+returns-in-Ok-clause-performed g c = unlisted RunFault.Memory tt c.in-Ok.ensures.opened refl
+    (c.tell.ensures.status, (_, refl, c.tell.ensures.told))
+
+pub returns-clause-performed : goal.returns-clause-performed
+returns-clause-performed g c =
+    unlisted c.in-Err.failed.fault c.in-Err.ensures.fault c.in-Err.ensures.opened refl
+    c.tell_unlisted.ensures

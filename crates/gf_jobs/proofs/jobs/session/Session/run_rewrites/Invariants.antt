@@ -1,0 +1,12 @@
+use Rattle.gf_jobs.specs.Performs.{IsSame, RewritesNext, Stays, world_of}
+use Rattle.gf_jobs.proofs.Going.{IsOn}
+use Rattle.gf_jobs.proofs.jobs.session.Session.run_rewrites.Given as goal
+
+abbrev pub invariant-loop-file : goal.invariant-loop-file
+invariant-loop-file g l = record {
+  same : IsSame l.fn.self l.self;
+  so_far : IsOn
+      (RewritesNext g.I.Inputs.opener g.I.Opened.Source.reader g.E.Sink.writer l.fn.self.explain
+      l.names) (λ file status a b. ⊥) Stays l.files l.file-index (world_of l.fn.self) l.worst
+      (world_of l.self);
+}

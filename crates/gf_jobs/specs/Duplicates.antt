@@ -1,0 +1,69 @@
+-- Which of the files that were read are the same game, and the text that names them.
+use Rattle.std.specs.Prelude.{◌≡◌, ℕ, Bool, nat_eq, nat_lt, not, List, [], length, map}
+use Rattle.std.specs.Cmp.Lexicographic.{pointwise}
+use Rattle.std.specs.List.{Contains, filter, flat_map, join_by, list_any}
+use Rattle.gf_tree.specs.FiniteMap.{first_uses}
+use Rattle.gf_words.specs.declared.job.LineEnd.{LineEnd}
+use Rattle.gf_jobs.specs.Lines.{end_text, name_line}
+
+-- a file that was read: its name, and the hash of its canonical text
+pub record HashedFile : Type 0 where
+  pub name : List ℕ
+  pub hash : List ℕ
+
+-- whether two hashes are equal
+abbrev pub same_hash : List ℕ → List ℕ → Bool
+same_hash = pointwise nat_eq
+
+-- the different hashes of files, in the order of the first files that have them
+abbrev pub hashes_of : List HashedFile → List (List ℕ)
+hashes_of files = first_uses same_hash (map (λ file. file.hash) files)
+
+-- the files that have this hash, in their order
+abbrev pub having : List HashedFile → List ℕ → List HashedFile
+having files hash = filter (λ file. same_hash hash file.hash) files
+
+-- the files in groups of one hash, a group for each hash
+abbrev pub groups_of : List HashedFile → List (List HashedFile)
+groups_of files = map (having files) (hashes_of files)
+
+-- two files are in one group of these files
+pub record AreInOneGroup (files : List HashedFile) (a b : HashedFile) : Type 0 where
+  pub group : List HashedFile
+  pub is_group : Contains (groups_of files) group
+  pub first : Contains group a
+  pub second : Contains group b
+
+-- the names of files
+abbrev pub names_of : List HashedFile → List (List ℕ)
+names_of files = map (λ file. file.name) files
+
+-- whether a group has two files or more
+abbrev pub has_two : List (List ℕ) → Bool
+has_two names = nat_lt 1 (length names)
+
+-- the names of the groups of two files or more
+abbrev pub duplicates : List HashedFile → List (List (List ℕ))
+duplicates files = filter has_two (map names_of (groups_of files))
+
+-- whether no two files have one hash
+abbrev pub are_apart : List HashedFile → Bool
+are_apart files = not (list_any has_two (map names_of (groups_of files)))
+
+-- a line for each name
+abbrev pub name_lines : LineEnd → List (List ℕ) → List ℕ
+name_lines end names = flat_map (name_line end []) names
+
+-- the names of groups, with an empty line between two groups
+abbrev pub groups_text : LineEnd → List (List (List ℕ)) → List ℕ
+groups_text end groups = join_by (name_lines end) (end_text end) groups
+
+-- what is kept of files: their hashes, and for each hash the names of its files
+pub record KeptNames : Type 0 where
+  pub hashes : List (List ℕ)
+  pub names : List (List (List ℕ))
+
+-- this is kept of the files
+pub record IsKeptOf (files : List HashedFile) (kept : KeptNames) : Type 0 where
+  pub hashes : kept.hashes ≡ hashes_of files
+  pub names : kept.names ≡ map names_of (groups_of files)

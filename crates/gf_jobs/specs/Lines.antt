@@ -1,0 +1,93 @@
+-- The line about one of several files, and the runs over one file by what is done with it.
+use Rattle.std.specs.Prelude.{◌≡◌, ℕ, Bool, true, List, [], ◌∷◌, ◌++◌, ◌||◌, nat_eq, codes}
+use Rattle.std.specs.Prelude.{if◌then◌else◌, Result, Ok, ⊤, MatchResult}
+use Rattle.std.specs.List.{flat_map, list_any}
+use Rattle.std.specs.Result.{result_and}
+use Rattle.hex.specs.Hex.{encode_lower}
+use Rattle.sha2.specs.Sha256.{sha256}
+use Rattle.gf_token.specs.declared.names.Names.{Names}
+use Rattle.gf_canon.specs.KindOfFile.{MeansFileOf}
+use Rattle.gf_canon.specs.NamesAside.{IsTextBy}
+use Rattle.gf_canon.specs.declared.kind.FileKind.{FileKind}
+use Rattle.gf_explain.specs.Shown.{shown_name}
+use Rattle.gf_words.specs.declared.job.LineEnd.{LineEnd}
+use Rattle.gf_run.specs.Faults.{IsFaultOfFile, IsRefusal}
+use Rattle.gf_run.specs.Run.{Reads, Runs, RunsCanonBy, RunsCheck, RunsTable}
+use Rattle.gf_run.specs.Streams.{Stream}
+use Rattle.gf_run.specs.Texts.{AreCanonical, kind_line}
+use Rattle.gf_run.specs.Transfers.{IsNotRead, IsReadWhole}
+use Rattle.gf_run.specs.declared.fault.RunFault.{RunFault}
+use Rattle.gf_run.specs.declared.fault.Which.{Which}
+use Rattle.gf_jobs.specs.declared.collections.line.FileLine.{FileLine}
+use Rattle.gf_jobs.specs.declared.jobs.one_file.OneTask.{OneTask}
+
+-- ---- a name
+
+-- what ends a line
+abbrev pub end_text : LineEnd → List ℕ
+end_text LineEnd.LineFeed = codes "\n"
+end_text LineEnd.Null = 0 ∷ []
+
+-- a line feed, a carriage return or a backslash
+abbrev pub is_escaped : ℕ → Bool
+is_escaped byte = nat_eq byte 10 || nat_eq byte 13 || nat_eq byte 92
+
+-- a byte of a name, as `sha256sum` writes it
+abbrev pub byte_text : ℕ → List ℕ
+byte_text byte = if nat_eq byte 10 then codes "\\n" else if nat_eq byte 13 then codes "\\r"
+    else if nat_eq byte 92 then codes "\\\\" else byte ∷ []
+
+-- a name: in a line that NUL ends, as it is
+abbrev pub name_text : LineEnd → List ℕ → List ℕ
+name_text LineEnd.LineFeed name = flat_map byte_text name
+name_text LineEnd.Null name = name
+
+-- what the line of a name begins with: a backslash, if a byte of the name is escaped
+abbrev pub mark : LineEnd → List ℕ → List ℕ
+mark LineEnd.LineFeed name = if list_any is_escaped name then codes "\\" else []
+mark LineEnd.Null name = []
+
+-- the line of a name, after a text that stands before it
+abbrev pub name_line : LineEnd → List ℕ → List ℕ → List ℕ
+name_line end before name = mark end name ++ before ++ name_text end name ++ end_text end
+
+-- a text after the name of its file, as it is shown
+abbrev pub after_name : List ℕ → List ℕ → List ℕ
+after_name name text = shown_name name ++ codes ": " ++ text
+
+-- ---- the line about a file
+
+-- the bytes mean a file, and this is the hash of its canonical text
+pub record IsHashOf (names : Names) (bytes hash : List ℕ) : Type 0 where
+  pub text : List ℕ
+  pub is_text : IsTextBy names bytes text
+  pub is_hash : hash ≡ sha256 text
+
+-- the text is what is written about a file of this name with these bytes; `good` is false if it is
+-- named because something is against it
+abbrev pub IsLineOf : FileLine → List ℕ → Bool → List ℕ → List ℕ → Type 0
+IsLineOf FileLine.Kind name good bytes text = (good ≡ true) × ((kind : FileKind)
+    × MeansFileOf bytes kind × (text ≡ after_name name (kind_line kind)))
+IsLineOf (FileLine.Hash names end) name good bytes text = (good ≡ true) × ((hash : List ℕ)
+    × IsHashOf names bytes hash × (text ≡ name_line end (encode_lower hash ++ codes "  ") name))
+IsLineOf (FileLine.NotCanonical names) name good bytes text = AreCanonical names bytes good
+    × (text ≡ if good then [] else name_line LineEnd.LineFeed [] name)
+
+-- ---- the run over one file
+
+-- its canonical text is hashed
+abbrev pub ReadsHash : {R : Type 0} → Stream R → Names → Result (List ℕ) RunFault → R → R → Type 0
+ReadsHash reader names = Reads (IsReadWhole reader) (IsNotRead reader Which.Only)
+    (λ bytes result. MatchResult result (IsHashOf names bytes) (IsRefusal bytes)) (Unit {0})
+
+module _ {R W : Type 0} (reader : Stream R) (writer : Stream W) where
+  -- a run over one file by what is done with it; it returns no kind
+  abbrev pub RunsOne : OneTask → Result ⊤ RunFault → R → R → W → W → Type 0
+  RunsOne (OneTask.Canon names) = RunsCanonBy reader writer names
+  RunsOne OneTask.Check = λ result i i' o o'.
+      (kind : FileKind) × RunsCheck reader writer (result_and result (Ok kind)) i i' o o'
+  RunsOne (OneTask.Table strategies) = RunsTable reader writer strategies
+
+  -- `run_line`
+  abbrev pub RunsLine : FileLine → List ℕ → Result Bool RunFault → R → R → W → W → Type 0
+  RunsLine line name = Runs reader writer (IsLineOf line name) IsFaultOfFile

@@ -1,0 +1,38 @@
+-- What is opened for a job.
+use Rattle.std.specs.Prelude.{◌≡◌, ℕ, if◌then◌else◌, List, codes, Option, Some, None, Result, Ok}
+use Rattle.std.specs.Prelude.{Err, ⊤}
+use Rattle.std.specs.Str.{bytes_eq}
+use Rattle.std.specs.String.{string_bytes}
+use Rattle.std.specs.declared.io.Error.{Error}
+use Rattle.gf_words.specs.declared.job.Input.{Input}
+use Rattle.gf_jobs.specs.declared.collections.file.CollectionFile.{CollectionFile}
+use Rattle.gf_jobs.specs.declared.opening.inputs.Unreplaced.{Unreplaced}
+
+-- what opens inputs, and puts texts in the place of files: each holds for its state, what it gives,
+-- and the state after it; for a file its name comes first, and for a text the text after that
+pub record Opener (I S : Type 0) : Type 1 where
+  pub standard : I → S → I → Type 0
+  pub file : I → List ℕ → Result S Error → I → Type 0
+  pub replaced : I → List ℕ → List ℕ → Result ⊤ Unreplaced → I → Type 0
+
+-- the name of the file that an input is; standard input has none
+abbrev pub file_of : Input → Option (List ℕ)
+file_of Input.Standard = None
+file_of (Input.File name) = Some (string_bytes name)
+
+module _ {I S : Type 0} (opener : Opener I S) where
+  -- what opening gives: the file of this name, or standard input if there is none
+  abbrev pub Opens : Option (List ℕ) → I → Result S Error → I → Type 0
+  Opens None i answer i' = (s : S) × (answer ≡ Ok s) × opener.standard i s i'
+  Opens (Some name) i answer i' = opener.file i name answer i'
+
+  -- the same for a word; `-` is standard input
+  abbrev pub OpensNamed : List ℕ → I → Result S Error → I → Type 0
+  OpensNamed word = Opens (if bytes_eq word (codes "-") then None else Some word)
+
+  -- opening a file of a collection gives an input that is open, or none
+  abbrev pub OpensFile : CollectionFile → I → Option S → I → Type 0
+  OpensFile (CollectionFile.Input input) i (Some s) i' = Opens (file_of input) i (Ok s) i'
+  OpensFile (CollectionFile.Input input) i None i' =
+      (error : Error) × Opens (file_of input) i (Err error) i'
+  OpensFile (CollectionFile.NotText name) i answer i' = (answer ≡ None) × (i' ≡ i)

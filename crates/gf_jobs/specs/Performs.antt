@@ -1,0 +1,325 @@
+-- What the program does for each job, and for the files of a collection one after another.
+use Rattle.std.specs.Prelude.{◌≡◌, ◌≢◌, ◌⊎◌, ℕ, Bool, max, List, [], ◌∷◌, ◌++◌, Option, Some, None}
+use Rattle.std.specs.Prelude.{Result, Ok, Err, IsOk, ⊤, true, false, codes, if◌then◌else◌}
+use Rattle.std.specs.List.{flat_map}
+use Rattle.std.specs.String.{string_bytes}
+use Rattle.std.specs.declared.io.Error.{Error}
+use Rattle.gf_canon.specs.NamesAside.{IsTextBy}
+use Rattle.gf_token.specs.declared.names.Names.{Names}
+use Rattle.gf_form.specs.declared.forms.Strategies.{Strategies}
+use Rattle.gf_words.specs.declared.job.Input.{Input}
+use Rattle.gf_words.specs.declared.job.Job.{Job}
+use Rattle.gf_words.specs.declared.job.LineEnd.{LineEnd}
+use Rattle.gf_words.specs.declared.job.Paths.{Paths}
+use Rattle.gf_jobs.specs.Duplicates.{are_apart, duplicates, groups_text, HashedFile}
+use Rattle.gf_run.specs.Faults.{IsRefusal, answer_status, is_of_second}
+use Rattle.gf_run.specs.Transfers.{IsNotRead, IsReadWhole}
+use Rattle.gf_jobs.specs.LedTo.{AreFilesOf}
+use Rattle.gf_jobs.specs.Opening.{Opener, Opens, OpensFile, OpensNamed, file_of}
+use Rattle.gf_jobs.specs.Reports.{Ends, IsReported, IsTold, IsToldOf, called, name_of}
+use Rattle.gf_run.specs.Run.{IsAnswerBy, Reads, RunsTwo, Writes}
+use Rattle.gf_jobs.specs.Lines.{ReadsHash, RunsLine, RunsOne}
+use Rattle.gf_run.specs.Streams.{Stream}
+use Rattle.gf_run.specs.Texts.{AreCanonical}
+use Rattle.gf_jobs.specs.Lines.{after_name}
+use Rattle.gf_jobs.specs.Wrapped.{bytes_kept, kept_at_first, kept_reader, source_of}
+use Rattle.gf_jobs.specs.declared.collections.file.CollectionFile.{CollectionFile}
+use Rattle.gf_jobs.specs.declared.collections.folders.Repeats.{Repeats}
+use Rattle.gf_jobs.specs.declared.collections.line.FileLine.{FileLine}
+use Rattle.gf_jobs.specs.declared.explain.Failed.{Failed}
+use Rattle.gf_run.specs.declared.fault.RunFault.{RunFault}
+use Rattle.gf_run.specs.declared.fault.Which.{Which}
+use Rattle.gf_jobs.specs.declared.jobs.many_files.Task.{Task}
+use Rattle.gf_jobs.specs.declared.jobs.one_file.OneTask.{OneTask}
+use Rattle.gf_jobs.specs.declared.jobs.session.Session.{Session}
+use Rattle.gf_jobs.specs.declared.opening.inputs.Unreplaced.{Unreplaced}
+use Rattle.gf_jobs.specs.declared.opening.kept.Kept.{Kept}
+
+-- what a job works with: what opens inputs, standard output and standard error
+pub record World (I W E : Type 0) : Type 0 where
+  pub inputs : I
+  pub output : W
+  pub errors : E
+
+-- what a session works with, as it is
+abbrev pub world_of : {I P W E : Type 0} → Session I P W E → World I W E
+world_of s = record { inputs = s.inputs.now; output = s.output.now; errors = s.errors.now }
+
+-- a session works with the same ones, and explains faults or not as before
+abbrev pub IsSame : {I P W E : Type 0} → Session I P W E → Session I P W E → Type 0
+IsSame old new = (new.inputs.ghost_name ≡ old.inputs.ghost_name)
+    × (new.progress.ghost_name ≡ old.progress.ghost_name)
+    × (new.output.ghost_name ≡ old.output.ghost_name)
+    × (new.errors.ghost_name ≡ old.errors.ghost_name) × (new.explain ≡ old.explain)
+
+-- ---- one file
+
+-- for what opens inputs; `explain` says whether the bytes that are read are kept. `Run` says what
+-- the run over an open file does, and `End` how it ends.
+module _ {I S W E A : Type 0} (opener : Opener I S) (explain : Bool)
+    (Run : Result A RunFault → Kept S → Kept S → I → I → W → W → Type 0)
+    (End : Result A RunFault → Option (List ℕ) → ℕ → E → E → Type 0) where
+  pub data Over (file : CollectionFile) (status : ℕ) (a b : World I W E) : Type 0 where
+    -- it could not be opened, and nothing was asked of the output
+    unopened : OpensFile opener file a.inputs None b.inputs → b.output ≡ a.output
+        → End (Err (RunFault.Read Which.Only)) (kept_at_first explain) status a.errors b.errors
+        → Over file status a b
+    -- it was opened once, and the run over it had this result
+    opened : (result : Result A RunFault) (s s' : Kept S) (mid : I)
+        → OpensFile opener file a.inputs (Some (source_of s)) mid
+        → bytes_kept s ≡ kept_at_first explain
+        → Run result s s' mid b.inputs a.output b.output
+        → End result (bytes_kept s') status a.errors b.errors → Over file status a b
+
+-- ---- one file after another
+
+-- `Step` says what is done with a file, and with which status, `Stop` the same of one after which
+-- the run ends, and `Close` what is done after the last one.
+module _ {A B : Type 0} (Step : CollectionFile → ℕ → A → A → Type 0)
+    (Stop : CollectionFile → ℕ → A → B → Type 0) (Close : ℕ → A → B → Type 0) where
+  -- the status is the worst of all
+  abbrev pub GoesOver : List CollectionFile → ℕ → ℕ → A → B → Type 0
+  GoesOver [] worst status a b = (own : ℕ) × Close own a b × (status ≡ max worst own)
+  GoesOver (file ∷ files) worst status a b =
+      ((own : ℕ) × Stop file own a b × (status ≡ max worst own))
+      ⊎ ((own : ℕ) × (mid : A) × Step file own a mid × GoesOver files (max worst own) status mid b)
+
+-- nothing is done after the last file
+abbrev pub Stays : {A : Type 0} → ℕ → A → A → Type 0
+Stays status a b = (status ≡ 0) × (b ≡ a)
+
+-- ---- a text in the place of each file
+
+-- the fault of a file whose text could not be put in its place
+abbrev pub unreplaced_fault : Unreplaced → RunFault
+unreplaced_fault Unreplaced.Memory = RunFault.Memory
+unreplaced_fault (Unreplaced.System error) = RunFault.Write
+
+-- the result of a run, without what the system says about a fault
+abbrev pub without_cause : Result ⊤ Failed → Result ⊤ RunFault
+without_cause (Ok done) = Ok done
+without_cause (Err failed) = Err failed.fault
+
+-- for what opens inputs and replaces files
+module _ {I S : Type 0} (opener : Opener I S) where
+  -- a text was put in the place of a file, if it could be; standard input has no place
+  abbrev pub IsReplacedBy : CollectionFile → List ℕ → Result ⊤ RunFault → I → I → Type 0
+  IsReplacedBy (CollectionFile.Input (Input.File name)) text (Ok done) i i' =
+      opener.replaced i (string_bytes name) text (Ok done) i'
+  IsReplacedBy (CollectionFile.Input (Input.File name)) text (Err fault) i i' = (why : Unreplaced)
+      × opener.replaced i (string_bytes name) text (Err why) i' × (fault ≡ unreplaced_fault why)
+  IsReplacedBy file text result i i' = (result ≡ Err RunFault.Write) × (i' ≡ i)
+
+  -- what is done about a file that has these bytes
+  pub data IsRewritten (names : Names) (file : CollectionFile) (i i' : I) (bytes : List ℕ)
+      (result : Result ⊤ RunFault) : Type 0 where
+    -- they are its canonical text, and it stays as it is
+    canonical : (done : ⊤) → result ≡ Ok done → AreCanonical names bytes true → i' ≡ i
+        → IsRewritten names file i i' bytes result
+    -- they are not, and the text was put in their place, if it could be
+    replaced : (text : List ℕ) → AreCanonical names bytes false → IsTextBy names bytes text
+        → IsReplacedBy file text result i i' → IsRewritten names file i i' bytes result
+    -- they are refused, and the file stays as it is
+    refused : (why : RunFault) → result ≡ Err why → IsRefusal bytes why → i' ≡ i
+        → IsRewritten names file i i' bytes result
+
+  -- it is read whole for that
+  abbrev pub Rewrites : Stream S → Names → CollectionFile → Result ⊤ RunFault → Kept S → Kept S
+      → I → I → Type 0
+  Rewrites reader names file result s s' i i' = Reads (IsReadWhole (kept_reader reader))
+      (IsNotRead (kept_reader reader) Which.Only) (IsRewritten names file i i') (i' ≡ i) result s s'
+
+-- ---- which files are the same game
+
+-- this in the place of the output: while files are read, those that have a hash, in their order
+abbrev pub with_output : {I V W E : Type 0} → W → World I V E → World I W E
+with_output output a = record { inputs = a.inputs; output = output; errors = a.errors }
+
+-- the files that have a hash, after one more file
+abbrev pub with_hash : CollectionFile → Result (List ℕ) RunFault → List HashedFile
+    → List HashedFile
+with_hash file (Ok hash) files = files ++ record { name = name_of file; hash = hash } ∷ []
+with_hash file (Err why) files = files
+
+module _ {I S E : Type 0} (opener : Opener I S) (reader : Stream S) (errors : Stream E)
+    (explain : Bool) (names : Names) where
+  -- a file has its canonical text; or its fault was reported
+  abbrev pub RewritesNext : {W : Type 0} → CollectionFile → ℕ → World I W E → World I W E → Type 0
+  RewritesNext file = Over opener explain
+      (λ result s s' i i' o o'. (o' ≡ o) × Rewrites opener reader names file result s s' i i')
+      (Ends (IsToldOf errors (name_of file)) (λ done. 0)) file
+
+  abbrev pub RewritesAll : {W : Type 0} → List CollectionFile → ℕ → World I W E → World I W E
+      → Type 0
+  RewritesAll files = GoesOver RewritesNext (λ file status a b. ⊥) Stays files 0
+
+  -- the run over one file, and what stands in the place of the output after it
+  abbrev pub Hashes : {W : Type 0} → (Result (List ℕ) RunFault → W → W) → Result (List ℕ) RunFault
+      → Kept S → Kept S → I → I → W → W → Type 0
+  Hashes after result s s' i i' o o' =
+      (i' ≡ i) × (o' ≡ after result o) × ReadsHash (kept_reader reader) names result s s'
+
+  -- it has a hash; or it has none, and its fault was reported
+  abbrev pub HashesNext : CollectionFile → ℕ → World I (List HashedFile) E
+      → World I (List HashedFile) E → Type 0
+  HashesNext file = Over opener explain (Hashes (with_hash file))
+      (Ends (IsToldOf errors (name_of file)) (λ hash. 0)) file
+
+  -- it has one, but memory for it ran out, which was reported, and nothing was written
+  abbrev pub IsOutOfMemory : {W : Type 0} → W → CollectionFile → ℕ → World I (List HashedFile) E
+      → World I W E → Type 0
+  IsOutOfMemory output file status a b = Over opener explain (Hashes (λ result o. o))
+      (λ result kept status e e'. IsOk result
+      × IsReported errors (name_of file) None RunFault.Memory status e e')
+      file status (with_output output a) b
+
+-- after all files: their groups were written, unless the writer failed or memory ran out, which was
+-- reported
+abbrev pub WritesGroups : {I W E : Type 0} → Stream W → Stream E → Bool → LineEnd → W → ℕ
+    → World I (List HashedFile) E → World I W E → Type 0
+WritesGroups writer errors explain end output status a b = (result : Result Bool RunFault)
+    × (b.inputs ≡ a.inputs) × Writes writer (λ apart text. (apart ≡ are_apart a.output)
+    × (text ≡ groups_text end (duplicates a.output))) (λ why. why ≡ RunFault.Memory)
+    result output b.output
+    × Ends (IsReported errors []) answer_status result (kept_at_first explain) status
+    a.errors b.errors
+
+-- ---- over two files
+
+-- of two files, the one that the result of a run over both is about
+abbrev pub of_fault : {A T : Type 0} → Result A RunFault → T → T → T
+of_fault (Ok answer) first second = first
+of_fault (Err fault) first second = if is_of_second fault then second else first
+
+-- ---- over the files of a collection
+
+-- whether a file is kept that a folder has by a second name
+abbrev pub repeats_of : Task → Repeats
+repeats_of (Task.Duplicates names end) = Repeats.PassedOver
+repeats_of task = Repeats.Kept
+
+-- why the files may not be known: memory ran out, or a list of names could not be read
+abbrev pub IsUnlisted : Paths → RunFault → Type 0
+IsUnlisted paths RunFault.Memory = Unit {0}
+IsUnlisted (Paths.List list end) (RunFault.Read Which.Only) = Unit {0}
+IsUnlisted paths fault = ⊥
+
+-- It was reported why no file is opened: a list could not be read, which is said after its name, and
+-- explained if `explain` is true; or memory ran out.
+abbrev pub IsToldOfPaths : {E : Type 0} → Stream E → Bool → RunFault → Paths → ℕ → E → E → Type 0
+IsToldOfPaths errors explain (RunFault.Read which) (Paths.List list end) =
+    IsToldOf errors (called (codes "-") list) (kept_at_first explain) (RunFault.Read which)
+IsToldOfPaths errors explain fault paths = IsReported errors [] None fault
+
+-- what is said of folders that have no game files: a line for each
+abbrev pub without_games : List (List ℕ) → List ℕ
+without_games folders = flat_map (λ folder. after_name folder (codes "no game files\n")) folders
+
+-- for what opens inputs: what is opened to find the files of a collection. A list of names is
+-- opened once, if it can be.
+abbrev pub ArePathsOpened : {I S : Type 0} → Opener I S → Paths → I → I → Type 0
+ArePathsOpened {S = S} opener (Paths.List list end) i i' =
+    (answer : Result S Error) × Opens opener (file_of list) i answer i'
+ArePathsOpened opener paths i i' = i' ≡ i
+
+-- ---- by the job
+
+-- for what opens inputs, for the inputs, for standard output and for standard error; `explain` says
+-- whether a fault is explained
+module _ {I S W E : Type 0} (opener : Opener I S) (reader : Stream S) (writer : Stream W)
+    (errors : Stream E) (explain : Bool) where
+  -- an input is opened once, and this is done with it
+  abbrev pub PerformsOne : OneTask → Input → ℕ → World I W E → World I W E → Type 0
+  PerformsOne task input = Over opener explain (λ result s s' i i' o o'.
+      (i' ≡ i) × RunsOne (kept_reader reader) writer task result s s' o o')
+      (Ends (IsReported errors (called (codes "<stdin>") input)) (λ done. 0))
+      (CollectionFile.Input input)
+
+  -- the first file is opened, and then the second
+  pub data PerformsTwo (map : Bool) (names : Names) (first second : List ℕ) (status : ℕ)
+      (a b : World I W E) : Type 0 where
+    -- the first could not be opened, and nothing was asked of the second or of the output
+    first_unopened : (error : Error) → OpensNamed opener first a.inputs (Err error) b.inputs
+        → b.output ≡ a.output
+        → IsReported errors first (kept_at_first explain) (RunFault.Read Which.First) status
+        a.errors b.errors → PerformsTwo map names first second status a b
+    -- the second could not be
+    second_unopened : (s : S) (mid : I) (error : Error)
+        → OpensNamed opener first a.inputs (Ok s) mid
+        → OpensNamed opener second mid (Err error) b.inputs → b.output ≡ a.output
+        → IsReported errors second (kept_at_first explain) (RunFault.Read Which.Second) status
+        a.errors b.errors → PerformsTwo map names first second status a b
+    -- each was opened once, and the run ended so
+    both_opened : (s s' t t' : Kept S) (mid : I) (result : Result Bool RunFault)
+        → OpensNamed opener first a.inputs (Ok (source_of s)) mid
+        → OpensNamed opener second mid (Ok (source_of t)) b.inputs
+        → bytes_kept s ≡ kept_at_first explain → bytes_kept t ≡ kept_at_first explain
+        → RunsTwo (kept_reader reader) (kept_reader reader) writer (IsAnswerBy map names) result
+        s s' t t' a.output b.output
+        → Ends (IsReported errors (of_fault result first second)) answer_status result
+        (of_fault result (bytes_kept s') (bytes_kept t')) status a.errors b.errors
+        → PerformsTwo map names first second status a b
+
+  -- the run over one of several files
+  abbrev pub WritesLine : FileLine → CollectionFile → Result Bool RunFault → Kept S → Kept S
+      → I → I → W → W → Type 0
+  WritesLine line file result s s' i i' o o' =
+      (i' ≡ i) × RunsLine (kept_reader reader) writer line (name_of file) result s s' o o'
+
+  -- its line was written, which gives the status 1 if something is against the file; or its fault
+  -- was reported
+  abbrev pub WritesNext : FileLine → CollectionFile → ℕ → World I W E → World I W E → Type 0
+  WritesNext line file = Over opener explain (WritesLine line file)
+      (λ result kept status e e'. (result ≢ Err RunFault.Write)
+      × Ends (IsToldOf errors (name_of file)) answer_status result kept status e e') file
+
+  -- the writer failed, which was reported
+  abbrev pub IsCutOff : FileLine → CollectionFile → ℕ → World I W E → World I W E → Type 0
+  IsCutOff line file = Over opener explain (WritesLine line file)
+      (λ result kept status e e'. (result ≡ Err RunFault.Write)
+      × IsReported errors (name_of file) kept RunFault.Write status e e') file
+
+  abbrev pub WritesAll : FileLine → List CollectionFile → ℕ → World I W E → World I W E → Type 0
+  WritesAll line files = GoesOver (WritesNext line) (IsCutOff line) Stays files 0
+
+  -- which files are the same game: none has a hash at first
+  abbrev pub FindsAll : Names → LineEnd → List CollectionFile → ℕ → World I W E → World I W E
+      → Type 0
+  FindsAll names end files status a b = GoesOver (HashesNext opener reader errors explain names)
+      (IsOutOfMemory opener reader errors explain names a.output)
+      (WritesGroups writer errors explain end a.output) files 0 status (with_output [] a) b
+
+  -- the task of several files
+  abbrev pub Does : Task → List CollectionFile → ℕ → World I W E → World I W E → Type 0
+  Does (Task.Lines line) = WritesAll line
+  Does (Task.Duplicates names end) = FindsAll names end
+  Does (Task.Rewrites names) = RewritesAll opener reader errors explain names
+
+  pub data PerformsAll (task : Task) (paths : Paths) (status : ℕ) (a b : World I W E)
+      : Type 0 where
+    -- the files are found, before any of them is opened; folders that were named and have none are
+    -- reported, as far as the writer allowed; and the task was done for the files
+    found : (files : List CollectionFile) (folders : List (List ℕ)) (mid : World I W E)
+        → ArePathsOpened opener paths a.inputs mid.inputs → mid.output ≡ a.output
+        → AreFilesOf (repeats_of task) paths files folders
+        → IsTold errors (without_games folders) a.errors mid.errors
+        → Does task files status mid b → PerformsAll task paths status a b
+    -- they are not, or memory for that report ran out, which was reported
+    unlisted : (fault : RunFault) → IsUnlisted paths fault
+        → ArePathsOpened opener paths a.inputs b.inputs → b.output ≡ a.output
+        → IsToldOfPaths errors explain fault paths status a.errors b.errors
+        → PerformsAll task paths status a b
+
+  abbrev pub Performs : Job → ℕ → World I W E → World I W E → Type 0
+  Performs (Job.Canon input names) = PerformsOne (OneTask.Canon names) input
+  Performs (Job.Check input) = PerformsOne OneTask.Check input
+  Performs (Job.Table input reduced) = PerformsOne
+      (OneTask.Table (if reduced then Strategies.Reduced else Strategies.Pure)) input
+  Performs (Job.Same first second map names) =
+      PerformsTwo map names (string_bytes first) (string_bytes second)
+  Performs (Job.CheckCanon files names) =
+      PerformsAll (Task.Lines (FileLine.NotCanonical names)) files
+  Performs (Job.WriteCanon files names) = PerformsAll (Task.Rewrites names) files
+  Performs (Job.CheckAll files) = PerformsAll (Task.Lines FileLine.Kind) files
+  Performs (Job.Hash files names end) = PerformsAll (Task.Lines (FileLine.Hash names end)) files
+  Performs (Job.Duplicates files names end) = PerformsAll (Task.Duplicates names end) files

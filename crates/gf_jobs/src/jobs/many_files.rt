@@ -1,0 +1,123 @@
+//! The jobs over several files: which files these are, and which run is made for them.
+
+ghost use Rattle.std.specs.Prelude.{◌≡◌, IfOk, map};
+ghost use Rattle.std.specs.String.{string_bytes};
+ghost use Rattle.gf_jobs.specs.Performs.{Does, IsSame, IsToldOfPaths, PerformsAll};
+ghost use Rattle.gf_jobs.specs.Performs.{repeats_of, without_games, world_of};
+
+use crate::collections::file::{CollectionFile, called};
+use crate::collections::folders::Repeats;
+use crate::collections::line::FileLine;
+use crate::collections::paths::files_at;
+use crate::collections::progress::Progress;
+use crate::explain::Failed;
+use crate::jobs::ending::{after_name, nothing_kept, tell, tell_of};
+use crate::jobs::session::Session;
+use crate::opening::inputs::Inputs;
+use gf_canon::Names;
+use gf_run::{LastError, RunFault, Sink, push_all};
+use gf_words::{LineEnd, Paths};
+use std::alloc::{AllocError, Global};
+use std::rt::Files;
+
+/// What is done with the files of a collection.
+#[derive(Clone, Copy)]
+pub enum Task {
+    /// This line is written about each.
+    Lines(FileLine),
+    /// It is said which of them are the same game, with names or without; lines end so.
+    Duplicates(Names, LineEnd),
+    /// The canonical text of each, with names or without, is put in its place.
+    Rewrites(Names),
+}
+
+impl Task {
+    /// Whether a file that a folder holds under two names is read for both.
+    pub fn repeats(self) -> Repeats
+        ensures { result ≡ repeats_of self }
+    {
+        match self {
+            Task::Duplicates(..) => Repeats::PassedOver,
+            Task::Lines(_) | Task::Rewrites(_) => Repeats::Kept,
+        }
+    }
+}
+
+/// Reports why the files of a collection are not known, and returns the exit status: E20 after the
+/// name of the list, explained if `explain` is true, or E19.
+fn tell_unlisted<E: Sink>(
+    alloc: Global,
+    paths: &Paths,
+    failed: &Failed,
+    explain: bool,
+    errors: &mut E,
+) -> u8
+    ensures { IsToldOfPaths E.writer explain failed.now.fault paths.now result
+        errors.old errors.new }
+{
+    let Failed { fault, cause } = failed;
+    match (fault, paths) {
+        (RunFault::Read(_), Paths::List { list, .. }) => {
+            tell_of(
+                alloc,
+                fault,
+                cause,
+                called("-", list),
+                nothing_kept(explain),
+                errors,
+            )
+        }
+        _ => tell(fault, errors),
+    }
+}
+
+/// What is said of folders that were named and have no game files: a line for each.
+fn without_games(alloc: Global, folders: &[String]) -> Result<Vec<u8>, AllocError>
+    ensures { IfOk result (λ text. text.items ≡ without_games (map string_bytes folders.now)) }
+{
+    let mut text = Vec::new(alloc);
+    for folder in folders {
+        let line = after_name(alloc, folder.as_str(), b"no game files\n")?;
+        text.extend_from_slice(line.as_slice())?;
+    }
+    Ok(text)
+}
+
+impl<I: Inputs, P: Progress, W: Sink + LastError, E: Sink> Session<'_, '_, '_, '_, I, P, W, E> {
+    /// Does this for files, and returns the exit status.
+    pub(crate) fn run_task(&mut self, files: &[CollectionFile], task: Task) -> u8
+        ensures same { IsSame self.old self.new }
+        ensures done { Does I.opener I.Opened.reader W.writer E.writer self.old.explain task
+            files.now result (world_of self.old) (world_of self.new) }
+    {
+        match task {
+            Task::Lines(line) => self.run_lines(files, line),
+            Task::Duplicates(names, end) => self.run_duplicates(files, names, end),
+            Task::Rewrites(names) => self.run_rewrites(files, names),
+        }
+    }
+
+    /// Does a task for the files of a collection, and returns the exit status.
+    ///
+    /// All paths are followed, and folders that have no game files are reported, before a file is
+    /// opened. If memory runs out then, E19 is reported; if a list of names cannot be opened or read,
+    /// E20 is reported after its name, and explained if `explain` is true.
+    pub(crate) fn perform_all<R>(&mut self, rt: &R, paths: &Paths, task: Task) -> u8
+    where
+        R: Files + AllocGlobal,
+        ensures same { IsSame self.old self.new }
+        ensures performed { PerformsAll I.opener I.Opened.reader W.writer E.writer self.old.explain
+            task paths.now result (world_of self.old) (world_of self.new) }
+    {
+        match files_at(rt, self.inputs, paths, task.repeats()) {
+            Ok(found) => match without_games(self.alloc, found.without_games.as_slice()) {
+                Ok(text) => {
+                    let _ = push_all(self.errors, text.as_slice());
+                    self.run_task(found.files.as_slice(), task)
+                }
+                Err(AllocError) => tell(&RunFault::Memory, self.errors),
+            },
+            Err(failed) => tell_unlisted(self.alloc, paths, &failed, self.explain, self.errors),
+        }
+    }
+}

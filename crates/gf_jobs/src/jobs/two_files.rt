@@ -1,0 +1,68 @@
+//! The job over two files.
+
+ghost use Rattle.gf_run.specs.Faults.{answer_status};
+ghost use Rattle.gf_jobs.specs.Wrapped.{bytes_kept};
+ghost use Rattle.gf_jobs.specs.Performs.{IsSame, PerformsTwo, of_fault, world_of};
+ghost use Rattle.gf_jobs.specs.Reports.{Ends, IsReported};
+
+use crate::explain::cause_of;
+use crate::jobs::ending::{tell_of_file, tell_unopened};
+use crate::jobs::session::Session;
+use crate::opening::inputs::{Inputs, open_named};
+use crate::opening::kept::Kept;
+use gf_canon::Names;
+use gf_run::{LastError, RunFault, Sink, Which, answer_status, is_of_second, run_comparison};
+use std::alloc::Global;
+
+/// How the job ends by the result of its run.
+fn end_of<S: LastError, W: LastError, E: Sink>(
+    alloc: Global,
+    run: &Result<bool, RunFault>,
+    a: &str,
+    b: &str,
+    first: &Kept<S>,
+    second: &Kept<S>,
+    output: &W,
+    errors: &mut E,
+) -> u8
+    ensures { Ends (IsReported E.writer (of_fault run.now a.now b.now)) answer_status run.now
+        (of_fault run.now (bytes_kept first.now) (bytes_kept second.now)) result
+        errors.old errors.new }
+{
+    match run {
+        Ok(same) => answer_status(*same),
+        Err(fault) => {
+            let second_failed = is_of_second(fault);
+            let name = if second_failed { b } else { a };
+            let source = if second_failed { second } else { first };
+            let cause = cause_of(fault, source, output);
+            tell_of_file(alloc, fault, &cause, name, source.bytes(), errors)
+        }
+    }
+}
+
+impl<I: Inputs, P, W: Sink + LastError, E: Sink> Session<'_, '_, '_, '_, I, P, W, E> {
+    /// Opens two files, and writes whether they mean the same: with their renumbering if `map` is
+    /// true, otherwise by `names`.
+    pub(crate) fn perform_same(&mut self, a: &str, b: &str, map: bool, names: Names) -> u8
+        ensures same { IsSame self.old self.new }
+        ensures performed { PerformsTwo I.opener I.Opened.reader W.writer E.writer self.old.explain
+            map names a.now b.now result (world_of self.old) (world_of self.new) }
+    {
+        let (alloc, explain) = (self.alloc, self.explain);
+        let first = match open_named(self.inputs, a) {
+            Ok(first) => first,
+            Err(error) => return tell_unopened(alloc, Which::First, error, a, explain, self.errors),
+        };
+        let second = match open_named(self.inputs, b) {
+            Ok(second) => second,
+            Err(error) => {
+                return tell_unopened(alloc, Which::Second, error, b, explain, self.errors);
+            }
+        };
+        let mut first = Kept::new(alloc, first, explain);
+        let mut second = Kept::new(alloc, second, explain);
+        let run = run_comparison(alloc, &mut first, &mut second, map, names, self.output);
+        end_of(alloc, &run, a, b, &first, &second, self.output, self.errors)
+    }
+}

@@ -1,0 +1,78 @@
+//! How the inputs of a job are opened, and how a text takes the place of one.
+
+ghost use Rattle.std.specs.Prelude.{◌≡◌, Err, MatchResult, Ok};
+ghost use Rattle.gf_jobs.specs.Wrapped.{bytes_kept, kept_at_first, source_of};
+ghost use Rattle.gf_jobs.specs.Opening.{Opener, Opens, OpensNamed, file_of};
+
+use crate::opening::kept::Kept;
+use gf_nfg::TextPieces;
+use gf_run::{LastError, Source};
+use gf_words::Input;
+use std::alloc::Global;
+use std::io;
+
+/// Why a text was not put in the place of a file.
+#[derive(Clone, Copy)]
+pub enum Unreplaced {
+    /// Memory ran out.
+    Memory,
+    /// The system says why.
+    System(io::Error),
+}
+
+/// What opens inputs, and puts texts in the place of files.
+pub trait Inputs {
+    /// An input that is open.
+    type Opened: Source + LastError + Drop;
+
+    /// What opening and replacing give.
+    ghost opener: { Opener Self Self.Opened };
+
+    /// Standard input.
+    fn standard(&mut self) -> Self::Opened
+        ensures { opener.standard self.old result self.new };
+
+    /// Opens the file of this name. A folder can be opened, and its first read fails.
+    fn open(&mut self, name: &str) -> Result<Self::Opened, io::Error>
+        ensures { opener.file self.old name.now result self.new };
+
+    /// Puts a text in the place of the file of this name. After an error the file is as it was.
+    fn replace(&mut self, name: &str, text: TextPieces) -> Result<(), Unreplaced>
+        ensures { opener.replaced self.old name.now text.rest result self.new };
+}
+
+/// Opens what a word names; `-` is standard input.
+pub fn open_named<I: Inputs>(inputs: &mut I, name: &str) -> Result<I::Opened, io::Error>
+    ensures { OpensNamed I.opener name.now inputs.old result inputs.new }
+{
+    if name == "-" {
+        Ok(inputs.standard())
+    } else {
+        inputs.open(name)
+    }
+}
+
+/// Opens an input.
+pub fn open_input<I: Inputs>(inputs: &mut I, input: &Input) -> Result<I::Opened, io::Error>
+    ensures { Opens I.opener (file_of input.now) inputs.old result inputs.new }
+{
+    match input {
+        Input::Standard => Ok(inputs.standard()),
+        Input::File(name) => inputs.open(name.as_str()),
+    }
+}
+
+/// Opens an input whose bytes are kept, as they pass, if `keeps` is true.
+pub fn open_kept<I: Inputs>(
+    alloc: Global,
+    inputs: &mut I,
+    input: &Input,
+    keeps: bool,
+) -> Result<Kept<I::Opened>, io::Error>
+    ensures { MatchResult result
+        (λ kept. Opens I.opener (file_of input.now) inputs.old (Ok (source_of kept)) inputs.new
+        × (bytes_kept kept ≡ kept_at_first keeps))
+        (λ error. Opens I.opener (file_of input.now) inputs.old (Err error) inputs.new) }
+{
+    Ok(Kept::new(alloc, open_input(inputs, input)?, keeps))
+}

@@ -1,5 +1,0 @@
-use Rattle.gf_run.specs.inner.Followed.{Adds}
-use Rattle.gf_run.proofs.collections.folders.push_entries.Given as goal
-
-abbrev pub invariant-loop-name : goal.invariant-loop-name
-invariant-loop-name l = Adds l.folder l.fn.waiting.items l.waiting.items

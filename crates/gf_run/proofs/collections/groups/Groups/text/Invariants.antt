@@ -1,5 +1,0 @@
-use Rattle.gf_run.proofs.GroupsText.{IsOn}
-use Rattle.gf_run.proofs.collections.groups.Groups.text.Given as goal
-
-abbrev pub invariant-loop-group : goal.invariant-loop-group
-invariant-loop-group l = IsOn l.end l.self.names l.group-index l.text.items l.apart

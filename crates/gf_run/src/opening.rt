@@ -1,5 +1,0 @@
-//! How inputs are opened.
-
-pub mod inputs;
-pub mod opened;
-pub mod replaced;
