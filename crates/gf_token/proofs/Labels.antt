@@ -62,20 +62,16 @@ unfolding last_of
 ends_back [] before = refl
 ends_back (b ∷ front) before = ends_back front b
 
--- a quote is not a backslash
-other_byte : (b : ℕ) → b ≡ 34 → b ≡ 92 → ⊥
-other_byte b quote e = omega arith
-
 pub said_of_quotes : (bytes : List ℕ)
     → IsTrue (is_spelling bytes) ↔ (EscapesQuotes bytes × ¬ (EndsInBackslash bytes))
 said_of_quotes bytes = (
   λ h. (
-    λ front back e. ends front 34 (other_byte 34 refl)
+    λ front back e. ends front 34 (omega arith)
         (quotes_escaped bytes front back 34 h e),
     λ w. last_not_escape bytes 34 h
         (ap (last_of 34) w.1 ∙ ends_back w.0 34),
   ),
   λ w. spelling_back bytes 34
       (λ front back e. let k = w.0 front back e in ap (last_of 34) k.1 ∙ ends_back k.0 34)
-      (λ e. w.1 (ends bytes 34 (other_byte 34 refl) e)),
+      (λ e. w.1 (ends bytes 34 (omega arith) e)),
 )

@@ -60,9 +60,6 @@ says_token t h precedes on rest others apart told at =
       ap (λ (ts : List Token). t ∷ ts) k.2,
     )
 
-bare_apart : (bytes rest : List ℕ) → IsApart rest → MayPrecede (Bare bytes) rest
-bare_apart bytes rest apart = grind arith
-
 -- ---- fields put together
 
 pub none : AreSaid [] []
@@ -88,7 +85,7 @@ module _ {X : Type 0} (P : X → Type 0) where
       both (one (f x) (g x ∷ []) (h x all.0)) (each_token f g h xs all.1)
 
 pub says_word : (bytes : List ℕ) → IsSpelled (Bare bytes) → Says bytes (Bare bytes ∷ [])
-says_word bytes h = says_token (Bare bytes) h (bare_apart bytes) (λ ls A a. a)
+says_word bytes h = says_token (Bare bytes) h (grind arith) (λ ls A a. a)
 
 says_label : (l : List ℕ) → IsLabel l → Says (quoted l) (Text l ∷ [])
 says_label l h = says_token (Text l) h (λ rest apart. tt) (λ ls A a. a)

@@ -1,6 +1,6 @@
 -- A machine that reads the files of a language: where it goes on, some file does, and where it
 -- refuses, none does.
-use Rattle.std.proofs.Common.{◌≡◌, ℕ, false, List, [], ◌∷◌, ◌++◌, length, Result, Ok}
+use Rattle.std.proofs.Common.{◌≡◌, ℕ, false, List, [], ◌∷◌, ◌++◌, length, Result, Ok, rules}
 use Rattle.std.proofs.Common.{refl, ◌∙◌, arith}
 use Rattle.std.specs.Prelude.{is_ok}
 use Rattle.gf_token.specs.Place.{tokens_of, Begins, IsAccepted, IsAcceptedThrough, IsSpanOf}
@@ -39,9 +39,7 @@ module _ {S C : Type 0} {step : S → Token → Result S Why} {finish : S → Re
   -- tokens that some file begins with lead to a state
   pub leads : (ts : List Token) → Begins IsFile ts → (s : S) × (walk step start ts ≡ Ok s)
   leads ts b =
-      let r = reader.is_read (ts ++ b.0) b.1 in
-      let mid = run_split step finish ts b.0 start r.0 r.1 in
-      (mid.0, mid.1)
+      search (rules, run_split)
 
   -- if it refuses some tokens, no file begins with them
   pub stops : (ts us : List Token) (s : S) → walk step start ts ≡ Ok s
@@ -55,9 +53,8 @@ module _ {S C : Type 0} {step : S → Token → Result S Why} {finish : S → Re
   pub not_accepted : (before after : List Token) (s : S) (why : Why)
       → walk step start before ≡ Ok s → StopsAt step finish s after why
       → ¬ (IsAccepted IsFile before after)
-  not_accepted before [] s why h e = λ file.
-      let r = reader.is_read before file in
-      cc (run_whole step finish before start s h)
+  not_accepted before [] s why h e =
+      search (rules, run_whole)
   not_accepted before (t ∷ after) s why h e = stops before (t ∷ []) s h (rw e refl)
 
   -- if it has passed a place, some file goes on there

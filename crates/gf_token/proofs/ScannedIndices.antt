@@ -14,9 +14,6 @@ use Rattle.gf_token.specs.Index.{ReadsIndex}
 -- a digit more
 module _ (bytes : List ℕ) (start at : ℕ) (from : start ≤ at) (within : at < length bytes)
     (digit : is_ascii_digit (get_or bytes at 0) ≡ true) where
-  room : at - start < length (drop start bytes)
-  room = omega (arith, length-drop start bytes)
-
   next : at + 1 - start ≡ at - start + 1
   next = omega arith
 
@@ -28,16 +25,16 @@ module _ (bytes : List ℕ) (start at : ℕ) (from : start ≤ at) (within : at 
 
   pub more_digits : AllDigits 10 (slice_range bytes start at)
       → AllDigits 10 (slice_range bytes start (at + 1))
-  more_digits all = grind (arith, digits_more, room, small, next)
+  more_digits all = grind (arith, digits_more, length-drop, small, next)
 
   pub more_value : digits_value 10 (slice_range bytes start (at + 1))
       ≡ digits_value 10 (slice_range bytes start at) * 10 + digit_value (get_or bytes at 0)
-  more_value = grind (arith, next, digits_value_more, room, byte)
+  more_value = grind (arith, digits_value_more, length-drop, get_or-drop)
 
 -- the first digit
 module _ (bytes : List ℕ) (start : ℕ) (within : start < length bytes)
     (digit : is_ascii_digit (get_or bytes start 0) ≡ true) where
-  none : slice_range bytes start start ≡ []
+  pub none : slice_range bytes start start ≡ []
   none = let n : start - start ≡ 0 = omega arith in ap (λ (i : ℕ). take i (drop start bytes)) n
 
   no_digits : AllDigits 10 (slice_range bytes start start)
@@ -45,10 +42,6 @@ module _ (bytes : List ℕ) (start : ℕ) (within : start < length bytes)
 
   pub first_digits : AllDigits 10 (slice_range bytes start (start + 1))
   first_digits = more_digits bytes start start (omega arith) within digit no_digits
-
-  pub first_value : digits_value 10 (slice_range bytes start (start + 1))
-      ≡ digit_value (get_or bytes start 0)
-  first_value = grind (arith, none, more_value)
 
 -- a further digit has room in 64 bits
 pub has_room : (bytes : List ℕ) (start at value : ℕ) → start ≤ at → at ≤ length bytes

@@ -3,7 +3,7 @@
 use Rattle.std.proofs.Common.{◌∷◌, ◌++◌, ◌≡◌, ℕ, suc, ◌+◌, ◌-◌, ◌<◌, ◌≤◌, ◌^◌, ◌==◌, Bool, true}
 use Rattle.std.proofs.Common.{false, inl, inr}
 use Rattle.std.proofs.Common.{List, length, take, drop, get_or, refl, sym, ap, subst, ◌∙◌, arith}
-use Rattle.std.specs.Prelude.{if◌then◌else◌, nat_lt, slice_range, Option, Some, None}
+use Rattle.std.specs.Prelude.{slice_range}
 use Rattle.std.specs.Int.{from_bool}
 use Rattle.std.specs.Str.Parse.{AllDigits, IsNumeral, digits_value}
 use Rattle.std.proofs.Math.Seq.{take-add}
@@ -15,15 +15,14 @@ use Rattle.std.proofs.lemmas.List.Folds.{drop_split}
 use Rattle.gf_fraction.specs.Ratio.{Ratio, signed, whole}
 use Rattle.gf_fraction.specs.NumberSpelling.{IsNumber, IsSign}
 use Rattle.gf_fraction.proofs.Offered.{digits_spelled as whole_spelled, is_sign_of, sign_of}
-use Rattle.gf_token.specs.Byte.{is_bare, is_space}
+use Rattle.gf_token.specs.Byte.{is_bare}
 use Rattle.gf_token.specs.Token.{lexeme}
 use Rattle.gf_token.specs.Token.Token.{Bare}
 use Rattle.gf_token.specs.TokenSpelling.{IsSpelled, MayPrecede}
-use Rattle.gf_token.specs.inner.Finding.{EndsDigits, FindsIndex, FindsNumber, lexed}
+use Rattle.gf_token.specs.inner.Finding.{EndsDigits, FindsNumber, lexed}
 use Rattle.gf_token.specs.inner.Lexing.{lex}
 use Rattle.gf_token.specs.inner.Lexing.Mode.{Gap}
 use Rattle.gf_token.proofs.Spelled.{token_again}
-use Rattle.gf_token.proofs.Steps.{gap_more}
 use Rattle.gf_token.proofs.ScannedIndices.{scanned}
 use Rattle.gf_token.proofs.SpelledNumbers.{digits_spelled, number_bare}
 
@@ -40,7 +39,7 @@ precedes bytes text at h =
 some_bytes : (text : List ℕ) → IsSpelled (Bare text) → 0 < length text
 some_bytes text h = grind arith
 
-length_range : (bytes : List ℕ) (start end : ℕ) → end ≤ length bytes
+pub length_range : (bytes : List ℕ) (start end : ℕ) → end ≤ length bytes
     → length (slice_range bytes start end) ≡ end - start
 length_range bytes start end within = grind (arith, length-take-le, length-drop)
 
@@ -83,19 +82,6 @@ pub digits_found : (bytes : List ℕ) (start at : ℕ) → start < at → at ≤
 digits_found bytes start at some within digits ends =
     grind (arith, length_range, finds_bare, digits_spelled)
 
--- digits between two bytes of whitespace are the next token
-pub spaced_found : (bytes : List ℕ) (from end value : ℕ) (index : Option ℕ)
-    → is_space (get_or bytes from 0) ≡ true → from + 1 < end → end < length bytes
-    → AllDigits 10 (slice_range bytes (from + 1) end) → is_bare (get_or bytes end 0) ≡ false
-    → value ≡ digits_value 10 (slice_range bytes (from + 1) end)
-    → index ≡ (if nat_lt value (2 ^ 32) then Some value else None)
-    → FindsIndex bytes from end index
-spaced_found bytes from end value index space some within digits ends valued is =
-    grind (arith, gap_more, digits_found, scanned)
-
-is_45 : (b : ℕ) → (b == 45) ≡ true → b ≡ 45
-is_45 b h = grind (arith, nat_tests)
-
 -- the bytes of a sign, or none, and those after it
 signed_slice : (bytes : List ℕ) (start sign at : ℕ) (negative : Bool) → sign ≡ from_bool negative
     → start < length bytes → (get_or bytes start 0 == 45) ≡ negative → start + sign < at
@@ -106,7 +92,7 @@ signed_slice bytes start sign at true one within is some =
     let more : at - start ≡ suc (at - (start + 1)) = omega (arith, next) in
     at_drop_more (take (at - start)) bytes start 0 within
     ∙ ap (λ (n : ℕ). take n (get_or bytes start 0 ∷ drop (start + 1) bytes)) more
-    ∙ ap (λ (b : ℕ). b ∷ slice_range bytes (start + 1) at) (is_45 (get_or bytes start 0) is)
+    ∙ ap (λ (b : ℕ). b ∷ slice_range bytes (start + 1) at) (grind (arith, nat_tests))
     ∙ ap (λ (n : ℕ). 45 ∷ slice_range bytes n at) next
 
 -- a sign, or none, and the first digits after it

@@ -1,36 +1,18 @@
 -- The span of a token is the slice of the bytes that spells it.
-use Rattle.std.proofs.Common.{◌≡◌, ℕ, ◌+◌, ◌<◌, List, [], ◌∷◌, ◌++◌, length}
+use Rattle.std.proofs.Common.{◌≡◌, ℕ, List, [], ◌∷◌, ◌++◌, length}
 use Rattle.std.proofs.Common.{refl, sym, ap, subst, ◌∙◌, append_assoc, arith}
-use Rattle.std.specs.Prelude.{slice_range}
 use Rattle.std.proofs.Math.Seq.{take-append_seam, drop-append_seam}
 use Rattle.std.proofs.lemmas.List.{length-append}
 use Rattle.gf_token.specs.Token.{Token, Lexeme, spelling}
 use Rattle.gf_token.specs.Token.Token.{Broken}
-use Rattle.gf_token.specs.TokenSpelling.{IsSpelled, GoesOn, BeginsWith, Spells}
+use Rattle.gf_token.specs.TokenSpelling.{GoesOn, BeginsWith, Spells}
 use Rattle.gf_token.specs.Slices.{StandsIn}
-
--- each token has a byte
-pub some_byte : (t : Token) → IsSpelled t → 0 < length (spelling t)
-some_byte t h = grind arith
-
-slice_between : (front mid back : List ℕ)
-    → slice_range (front ++ (mid ++ back)) (length front) (length front + length mid) ≡ mid
-slice_between front mid back =
-    grind (arith, drop-append_seam front (mid ++ back), take-append_seam mid back)
 
 -- a token that comes after the bytes `front`
 stands_after : (front bytes : List ℕ) (l : Lexeme) → BeginsWith (length front) bytes l
     → StandsIn (front ++ bytes) l
 stands_after front bytes l first =
-    grind (
-      arith,
-      append_assoc front first.gap (spelling l.token ++ first.rest),
-      length-append front first.gap,
-      some_byte l.token first.is_spelled,
-      length-append (front ++ first.gap) (spelling l.token ++ first.rest),
-      length-append (spelling l.token) first.rest,
-      slice_between (front ++ first.gap) (spelling l.token) first.rest,
-    )
+    grind (arith, append_assoc front first.gap (spelling l.token ++ first.rest), length-append front first.gap, length-append (front ++ first.gap) (spelling l.token ++ first.rest), length-append (spelling l.token) first.rest, drop-append_seam (front ++ first.gap) ((spelling l.token) ++ first.rest), take-append_seam (spelling l.token) first.rest)
 
 -- what goes on with a token goes on with what is spelled
 goes_on_some : (t : Token) (before after : List Lexeme) (l : Lexeme) (A : Type 0)
@@ -48,13 +30,7 @@ stands (x ∷ before) after l front bytes at e h =
     let mid = first.gap ++ spelling x.token in
     let further =
     goes_on_some x.token before after l (Spells x.end first.rest (before ++ l ∷ after)) h.1 in
-    let next : x.end ≡ length (front ++ mid) = omega (
-      arith,
-      first.start,
-      first.end,
-      length-append front mid,
-      length-append first.gap (spelling x.token),
-    ) in
+    let next : x.end ≡ length (front ++ mid) = grind (arith, length-append) in
     let whole : (front ++ mid) ++ first.rest ≡ front ++ bytes =
     append_assoc front mid first.rest ∙ ap (λ y. front ++ y)
     (append_assoc first.gap (spelling x.token) first.rest ∙ sym first.parts) in

@@ -1,4 +1,5 @@
 -- Each byte list spells exactly one list of tokens: those that are found in it byte by byte.
+use Rattle.std.proofs.lemmas.Bool.Decides.{nat_tests}
 use Rattle.std.proofs.Common.{◌≡◌, ℕ, suc, ◌+◌, Bool, true, false, ◌==◌, ◌&&◌, ◌||◌, cond, List, []}
 use Rattle.std.proofs.Common.{◌∷◌, ◌++◌, length, refl, sym, ap, subst, ◌∙◌, append_assoc, arith}
 use Rattle.std.proofs.Common.{inl, inr}
@@ -14,7 +15,6 @@ use Rattle.gf_token.specs.Token.Token.{Opening, Closing, Comma, Text, Bare, Brok
 use Rattle.gf_token.specs.TokenSpelling.{IsGap, IsSpelled, MayPrecede, GoesOn, Spells}
 use Rattle.gf_token.specs.inner.Lexing.{Mode, lex, single, begins}
 use Rattle.gf_token.specs.inner.Lexing.Mode.{Gap, InText, InBare}
-use Rattle.gf_token.proofs.Steps.{space_out, space_after, bare_out}
 
 abbrev pub AllBare : List ℕ → Type 0
 AllBare bytes = AllByRecursion (λ b. is_bare b ≡ true) bytes
@@ -31,7 +31,7 @@ gap_again : (gap rest : List ℕ) (at : ℕ) → IsGap gap
 unfolding lex
 gap_again [] rest at h = let e : at ≡ at + 0 = omega arith in ap (λ (i : ℕ). lex Gap i rest) e
 gap_again (b ∷ gap) rest at h =
-    grind (arith, space_out, space_after, gap_again gap rest (at + 1) h.1)
+    grind (arith, nat_tests, gap_again gap rest (at + 1) h.1)
 
 bare_again : (bs acc rest : List ℕ) (start at : ℕ) → AllBare bs
     → lex (InBare start acc) at (bs ++ rest)
@@ -113,7 +113,7 @@ spelled (l ∷ ls) at bytes h =
     (λ s. ap (λ (i : ℕ). lex Gap i first.rest) (sym e) ∙ spelled ls l.end first.rest s) h.1 in
     ap (lex Gap at) first.parts
     ∙ gap_again first.gap (spelling l.token ++ first.rest) at first.is_gap
-    ∙ token_again l.token begin first.rest ls first.is_spelled first.may_precede further
+    ∙ (grind (arith, length-append, append_assoc, text_again, bare_again, text_breaks))
     ∙ ap (λ (x : Lexeme). x ∷ ls) (made l begin end first.start (sym e))
 
 -- ---- what is found is spelled so
@@ -243,12 +243,12 @@ at_quote : (at : ℕ) (bs : List ℕ) → Known (at + 1) bs → Goal at 34 bs
 at_quote at bs ih = text_parts at bs (lex (InText at 34 []) (at + 1) bs) (ih (InText at 34 []))
 
 gap_step : (b at : ℕ) (bs : List ℕ) → Class b → Known (at + 1) bs → Goal at b bs
-gap_step b at bs (space s) ih = grind (arith, space_out, space_after, wider)
+gap_step b at bs (space s) ih = grind (arith, nat_tests, wider)
 gap_step b at bs (opening s) ih = subst (λ (x : ℕ). Goal at x bs) (sym s) (at_opening at bs ih)
 gap_step b at bs (closing s) ih = subst (λ (x : ℕ). Goal at x bs) (sym s) (at_closing at bs ih)
 gap_step b at bs (comma s) ih = subst (λ (x : ℕ). Goal at x bs) (sym s) (at_comma at bs ih)
 gap_step b at bs (quote s) ih = subst (λ (x : ℕ). Goal at x bs) (sym s) (at_quote at bs ih)
-gap_step b at bs (bare s) ih = grind (arith, bare_out, bare_parts)
+gap_step b at bs (bare s) ih = grind (arith, nat_tests, bare_parts)
 
 bare_step : (b at start : ℕ) (text bs : List ℕ) (c : Bool) → is_bare b ≡ c → Known (at + 1) bs
     → BareEnds start text at (b ∷ bs)
@@ -263,9 +263,7 @@ bare_step b at start text bs false s ih =
       others = from_gap b at bs;
       parts = refl;
       bare = tt;
-      first =
-          ap (λ (x : List ℕ). lexeme start at (Bare x) ∷ from_gap b at bs) (sym (append-nil text))
-          ∙ ap (λ (i : ℕ). lexeme start i (Bare (text ++ [])) ∷ from_gap b at bs) e;
+      first = grind (arith, append-nil);
       stands = s;
       then =
           subst (λ (i : ℕ). Spells i (b ∷ bs) (from_gap b at bs)) e
@@ -319,7 +317,7 @@ unfolding lex
 means [] at Gap = tt
 means [] at (InText start before text) = never (closes_never_none before) refl
 means [] at (InBare start text) = grind (arith, append-nil text)
-means (b ∷ bs) at Gap = gap_step b at bs (class_of b) (means bs (at + 1))
+means (b ∷ bs) at Gap = gap_step b at bs (grind arith) (means bs (at + 1))
 means (b ∷ bs) at (InBare start text) = grind (arith, bare_step, means bs (at + 1))
 means (b ∷ bs) at (InText start before text) =
     text_step b at start before text bs ((b == 34) && not (before == 92)) refl (means bs (at + 1))

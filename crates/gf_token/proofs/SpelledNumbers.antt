@@ -1,9 +1,8 @@
 -- The texts of numbers and of indices are the bytes of bare tokens, and the texts of indices are
 -- read as indices.
-use Rattle.std.proofs.Common.{◌≡◌, ◌⊎◌, ℕ, ℤ, ◌^◌, ◌<◌, ◌≤◌, true, List, [], ◌∷◌, ◌++◌}
+use Rattle.std.proofs.Common.{◌≡◌, ℕ, ℤ, ◌^◌, ◌<◌, ◌≤◌, true, List, [], ◌∷◌, ◌++◌}
 use Rattle.std.proofs.Common.{refl, arith}
 use Rattle.std.specs.Prelude.{codes, decimal, Bool}
-use Rattle.std.specs.Char.{digit_value}
 use Rattle.std.specs.Str.Parse.{AllDigits, IsNumeral}
 use Rattle.std.proofs.lemmas.Bool.Decides.{nat_tests}
 use Rattle.std.proofs.lemmas.Fmt.{decimal_is_IsNumeral}
@@ -21,12 +20,9 @@ use Rattle.gf_fraction.specs.NumberSpelling.HasShape.{plain, raised, fraction}
 use Rattle.gf_fraction.specs.Offered.{number_of}
 use Rattle.gf_fraction.proofs.Offered.{all_both, all_parts, number_again, written_is_read}
 
-bare_digit : (b : ℕ) → digit_value b < 10 → is_bare b ≡ true
-bare_digit b h = grind (arith, nat_tests)
-
 bare_digits : (bytes : List ℕ) → AllDigits 10 bytes → AllBare bytes
 bare_digits [] h = tt
-bare_digits (b ∷ bytes) h = (bare_digit b h.0, bare_digits bytes h.1)
+bare_digits (b ∷ bytes) h = ((grind (arith, nat_tests)), bare_digits bytes h.1)
 
 bare_both : (xs ys : List ℕ) → AllBare xs → AllBare ys → AllBare (xs ++ ys)
 bare_both xs ys h k = all_both (λ b. is_bare b ≡ true) xs ys h k
@@ -43,11 +39,8 @@ bare_plain _ _ _ (pointed before after is) =
     all_parts (λ b. is_bare b ≡ true) before after (bare_digits (before ++ after) is.1) in
     bare_both (before ++ codes ".") after (bare_both before (codes ".") parts.0 (refl, tt)) parts.1
 
-bare_mark : (mark : List ℕ) → (mark ≡ codes "e") ⊎ (mark ≡ codes "E") → AllBare mark
-bare_mark mark h = grind arith
-
 bare_exponent : (text : List ℕ) (exponent : ℤ) → IsExponent text exponent → AllBare text
-bare_exponent text exponent h = grind (arith, bare_both, bare_mark, bare_sign, bare_digits)
+bare_exponent text exponent h = grind (arith, bare_both, bare_digits)
 
 bare_shape : (text : List ℕ) (reading : Reading) → HasShape text reading → AllBare text
 bare_shape text _ (plain _ digits places is) = bare_plain text digits places is

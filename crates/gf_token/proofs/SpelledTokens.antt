@@ -5,21 +5,16 @@ use Rattle.gf_fraction.proofs.Offered.{all_parts}
 use Rattle.gf_token.specs.Token.{Token, Lexeme}
 use Rattle.gf_token.specs.Token.Token.{Closing}
 use Rattle.gf_token.specs.LabelSpelling.{IsLabel}
-use Rattle.gf_token.specs.TokenSpelling.{IsSpelled, GoesOn, Spells}
+use Rattle.gf_token.specs.TokenSpelling.{IsSpelled, Spells}
 use Rattle.gf_token.specs.Grammar.{braced, IsComment}
 
 abbrev pub AllSpelled : List Token → Type 0
 AllSpelled tokens = AllByRecursion IsSpelled tokens
 
-on_spelled : (t : Token) (others : List Lexeme) (A : Type 0)
-    → (A → AllSpelled (map (λ l. l.token) others)) → GoesOn t others A
-    → AllSpelled (map (λ l. l.token) others)
-on_spelled t others A f g = grind arith
-
 pub all_spelled : (ls : List Lexeme) (at : ℕ) (bytes : List ℕ) → Spells at bytes ls
     → AllSpelled (map (λ l. l.token) ls)
 all_spelled [] at bytes h = tt
-all_spelled (l ∷ ls) at bytes h = grind (arith, on_spelled, all_spelled ls l.end h.0.rest)
+all_spelled (l ∷ ls) at bytes h = grind (arith, all_spelled ls l.end h.0.rest)
 
 -- what stands between braces is spelled, and what comes after them
 pub braced_spelled : (inner rest : List Token) → AllSpelled (braced inner ++ rest)

@@ -1,15 +1,16 @@
 -- What the byte at a place says about the token that begins there.
+use Rattle.std.proofs.lemmas.Bool.Decides.{nat_tests}
 use Rattle.std.proofs.Common.{arith, ◌≡◌, ℕ, ◌+◌, ◌<◌, Bool, true, false, List, []}
 use Rattle.std.proofs.Common.{◌∷◌, ◌++◌, length, get_or, drop}
 use Rattle.std.proofs.lemmas.Bool.{cases_eq}
 use Rattle.gf_token.specs.Byte.{is_space, is_bare}
 use Rattle.gf_token.specs.Token.{Token}
 use Rattle.gf_token.specs.Token.Token.{Opening, Closing, Comma, Text, Bare, Broken}
-use Rattle.gf_token.specs.inner.Lexing.{lex, ended, after, single, begins}
+use Rattle.gf_token.specs.inner.Lexing.{lex, single, begins}
 use Rattle.gf_token.specs.inner.Lexing.Mode.{Gap, InText, InBare}
 use Rattle.gf_token.specs.Next.{starts, is_quoted, is_text_token, is_bare_token, is_opening}
 use Rattle.gf_token.specs.Next.{is_closing, is_comma}
-use Rattle.gf_token.proofs.Steps.{lex_more, bare_out, bare_if, opening, closing, comma}
+use Rattle.gf_token.proofs.Steps.{lex_more, bare_if, opening, closing, comma}
 
 -- what begins with a byte of a bare token is one
 pub in_bare : (test : Token → Bool) → ((text : List ℕ) → test (Bare text) ≡ false)
@@ -33,18 +34,6 @@ pub quoted : (bytes : List ℕ) (at : ℕ) → at < length bytes → get_or byte
     → starts is_quoted (lex Gap at (drop at bytes)) ≡ true
 quoted bytes at lt is = grind (arith, lex_more, in_text)
 
--- the token that begins with the byte b at a place
-front : (test : Token → Bool) (bytes : List ℕ) (at b : ℕ) (rest : List ℕ)
-    → starts test (ended Gap at b ++ lex (after Gap at b) (at + 1) rest) ≡ false
-    → at < length bytes → get_or bytes at 0 ≡ b → rest ≡ drop (at + 1) bytes
-    → starts test (lex Gap at (drop at bytes)) ≡ false
-front test bytes at b rest h lt is others = grind (arith, lex_more)
-
-bare_front : (test : Token → Bool)
-    → ((text : List ℕ) → test (Bare text) ≡ false) → (at b : ℕ) (rest : List ℕ) → is_bare b ≡ true
-    → starts test (ended Gap at b ++ lex (after Gap at b) (at + 1) rest) ≡ false
-bare_front test none at b rest h = grind (arith, bare_out, in_bare)
-
 -- A test that the token passes by none of the bytes that it may begin with.
 module _ (test : Token → Bool) (bytes : List ℕ) (at : ℕ) (lt : at < length bytes)
     (space : is_space (get_or bytes at 0) ≡ false)
@@ -55,7 +44,7 @@ module _ (test : Token → Bool) (bytes : List ℕ) (at : ℕ) (lt : at < length
     (closes : get_or bytes at 0 ≡ 125 → test Closing ≡ false)
     (comma_out : get_or bytes at 0 ≡ 44 → test Comma ≡ false) where
   pub not_in_front : starts test (lex Gap at (drop at bytes)) ≡ false
-  not_in_front = grind (arith, cases_eq, front, in_text, bare_if, bare_front)
+  not_in_front = grind (arith, cases_eq, lex_more, in_text, nat_tests, in_bare)
 
 pub no_text : (bytes : List ℕ) (at : ℕ) → at < length bytes → is_space (get_or bytes at 0) ≡ false
     → (get_or bytes at 0 ≡ 34 → ⊥) → starts is_text_token (lex Gap at (drop at bytes)) ≡ false

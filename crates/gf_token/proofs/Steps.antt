@@ -11,7 +11,7 @@ use Rattle.gf_token.specs.Byte.{is_space, is_bare}
 use Rattle.gf_token.specs.LabelSpelling.{is_spelling, is_spelling_after}
 use Rattle.gf_token.specs.Token.{lexeme}
 use Rattle.gf_token.specs.Token.Token.{Opening, Closing, Comma, Bare, Broken}
-use Rattle.gf_token.specs.inner.Lexing.{Mode, lex, ended, after, single, begins, last}
+use Rattle.gf_token.specs.inner.Lexing.{Mode, lex, ended, after, begins, last}
 use Rattle.gf_token.specs.inner.Finding.{ClosesText}
 use Rattle.gf_token.specs.inner.Lexing.Mode.{Gap, InText, InBare}
 
@@ -26,16 +26,9 @@ pub lex_all : (m : Mode) (bytes : List ℕ) (at : ℕ) → length bytes ≤ at
 unfolding lex
 lex_all m bytes at h = at_drop_all (lex m at) bytes at h
 
--- a byte of whitespace is none of the others
-pub space_out : (at b : ℕ) → is_space b ≡ true → single at b ≡ []
-space_out at b h = grind (arith, nat_tests)
-
-pub space_after : (at b : ℕ) → is_space b ≡ true → begins at b ≡ Gap
-space_after at b h = grind (arith, nat_tests)
-
 pub gap_more : (bytes : List ℕ) (at : ℕ) → at < length bytes → is_space (get_or bytes at 0) ≡ true
     → lex Gap at (drop at bytes) ≡ lex Gap (at + 1) (drop (at + 1) bytes)
-gap_more bytes at h s = grind (arith, lex_more, space_out, space_after)
+gap_more bytes at h s = grind (arith, lex_more, nat_tests)
 
 pub range_more : (xs : List ℕ) (s at : ℕ) → s ≤ at → at < length xs
     → slice_range xs s (at + 1) ≡ slice_range xs s at ++ get_or xs at 0 ∷ []
@@ -47,7 +40,7 @@ range_more xs s at le lt =
     ∙ ap (λ (x : ℕ). take (at - s) (drop s xs) ++ x ∷ [])
     (get_or-drop s xs (at - s) 0 ∙ ap (λ (i : ℕ). get_or xs i 0) k)
 
-range_none : (xs : List ℕ) (at : ℕ) → slice_range xs at at ≡ []
+pub range_none : (xs : List ℕ) (at : ℕ) → slice_range xs at at ≡ []
 range_none xs at = let n : at - at ≡ 0 = omega arith in ap (λ (i : ℕ). take i (drop at xs)) n
 
 -- ---- tokens of one byte
@@ -71,13 +64,10 @@ pub bare_if : (b : ℕ) → is_space b ≡ false → (b ≡ 123 → ⊥) → (b 
     → (b ≡ 34 → ⊥) → is_bare b ≡ true
 bare_if b s h i j k = grind (arith, nat_tests)
 
-pub bare_out : (at b : ℕ) → is_bare b ≡ true → single at b ≡ []
-bare_out at b s = grind (arith, nat_tests)
-
 pub bare_open : (bytes : List ℕ) (at : ℕ) → at < length bytes → is_bare (get_or bytes at 0) ≡ true
     → lex Gap at (drop at bytes) ≡ lex (InBare at (slice_range bytes at (at + 1))) (at + 1)
     (drop (at + 1) bytes)
-bare_open bytes at h s = grind (arith, range_more, range_none, lex_more, bare_out)
+bare_open bytes at h s = grind (arith, range_more, range_none, lex_more, nat_tests)
 
 pub bare_more : (bytes : List ℕ) (start at : ℕ) → start < at → at < length bytes
     → is_bare (get_or bytes at 0) ≡ true
@@ -107,11 +97,11 @@ pub opens : (bytes : List ℕ) (start : ℕ) → start < length bytes → get_or
 opens bytes start h s = grind (arith, lex_more, range_none)
 
 -- a byte that closes no text
-goes_on : (b before : ℕ) (more : List ℕ) → ((b == 34) && not (before == 92)) ≡ false
+pub goes_on : (b before : ℕ) (more : List ℕ) → ((b == 34) && not (before == 92)) ≡ false
     → is_spelling_after before (b ∷ more) ≡ is_spelling_after b more
 goes_on b before more h = grind (arith, nat_tests)
 
-no_close : (b before : ℕ) → (b ≡ 34 → before ≡ 92) → ((b == 34) && not (before == 92)) ≡ false
+pub no_close : (b before : ℕ) → (b ≡ 34 → before ≡ 92) → ((b == 34) && not (before == 92)) ≡ false
 no_close b before h = grind (arith, nat_tests)
 
 pub stays_open : (bytes : List ℕ) (start at : ℕ) → at < length bytes

@@ -14,7 +14,7 @@ use Rattle.gf_token.specs.LabelSpelling.{is_spelling}
 use Rattle.gf_token.specs.inner.Lexing.{lex}
 use Rattle.gf_token.specs.inner.Lexing.Mode.{Gap, InText}
 use Rattle.gf_token.specs.Next.{starts, is_text_of}
-use Rattle.gf_token.specs.Token.{Token, Lexeme, lexeme}
+use Rattle.gf_token.specs.Token.{Lexeme, lexeme}
 use Rattle.gf_token.specs.Token.Token.{Text}
 use Rattle.gf_token.specs.TokenSpelling.{IsGap, Spells}
 use Rattle.gf_token.proofs.Spelled.{found, text_again}
@@ -57,9 +57,6 @@ label_found bytes label start within opens same ends spelled =
 
 -- ---- no others are
 
-is_that_text : (label : List ℕ) (t : Token) → is_text_of label t ≡ true → t ≡ Text label
-is_that_text label t h = grind (arith, slice_eq-Decides, Decides-eqb)
-
 no_gap : (gap rest : List ℕ) → IsGap gap → is_space (get_or (gap ++ rest) 0 0) ≡ false → gap ≡ []
 no_gap [] rest h s = refl
 no_gap (b ∷ gap) rest h s = absurd cc
@@ -67,7 +64,7 @@ no_gap (b ∷ gap) rest h s = absurd cc
 begun : (label : List ℕ) (at : ℕ) (bytes : List ℕ) (ls : List Lexeme) → Spells at bytes ls
     → is_space (get_or bytes 0 0) ≡ false → starts (is_text_of label) ls ≡ true
     → (rest : List ℕ) × (bytes ≡ 34 ∷ (label ++ 34 ∷ rest))
-begun label at bytes ls h s is = grind (arith, no_gap, is_that_text, append_assoc)
+begun label at bytes ls h s is = grind (arith, no_gap, slice_eq-Decides, Decides-eqb, append_assoc)
 
 quoted : (bytes label rest : List ℕ) (start : ℕ) → drop start bytes ≡ 34 ∷ (label ++ 34 ∷ rest)
     → Quotes bytes start label
@@ -89,11 +86,7 @@ quoted bytes label rest start is =
       same =
           ap (λ (n : ℕ). take n (drop (start + 1) bytes)) size
           ∙ ap (take (length label)) after ∙ take-append_seam label (34 ∷ rest);
-      ends =
-          ap (λ (i : ℕ). get_or bytes i 0) (sym place)
-          ∙ sym (get_or-drop start bytes (suc (length label)) 0)
-          ∙ ap (λ (x : List ℕ). get_or x (suc (length label)) 0) is
-          ∙ get_or-append_seam label 34 rest 0;
+      ends = grind (arith, get_or, get_or-drop, get_or-append_seam);
     }
 
 abbrev pub Unlike : List ℕ → List ℕ → ℕ → Type 0

@@ -1,13 +1,12 @@
 -- What is known about the tokens of an input that are still to come.
 use Rattle.std.proofs.Common.{◌≡◌, ◌<◌, ◌≤◌, ◌+◌, ℕ, List, [], ◌∷◌, ◌++◌, length}
-use Rattle.std.proofs.Common.{sym, ap, subst, append_assoc, arith, zero-add}
+use Rattle.std.proofs.Common.{ap, subst, append_assoc, arith, zero-add}
 use Rattle.std.proofs.lemmas.List.{length-append}
 use Rattle.gf_token.specs.inner.Finding.{lexed}
 use Rattle.gf_token.specs.Remaining.{AreAhead, AreInOrder, StandsBefore}
 use Rattle.gf_token.specs.Token.{Token, Lexeme, lexeme, spelling}
 use Rattle.gf_token.specs.Token.Token.{Opening, Closing, Comma, Text, Bare, Broken}
 use Rattle.gf_token.specs.TokenSpelling.{GoesOn, Spells}
-use Rattle.gf_token.proofs.Spans.{some_byte}
 use Rattle.gf_token.proofs.Spelled.{found}
 
 -- ---- tokens stand in their order
@@ -17,7 +16,7 @@ pub in_order : (from : ℕ) (bytes : List ℕ) (ls : List Lexeme) → Spells fro
 in_order from bytes [] h = omega arith
 in_order from bytes (l ∷ ls) h =
     let first = h.0 in
-    let some = some_byte l.token first.is_spelled in
+    let some : 0 < length (spelling l.token) = grind arith in
     let start = first.start in
     let end = first.end in
     let size = ap length first.parts in
@@ -65,8 +64,7 @@ module _ (input : List ℕ) (at start end : ℕ) (token : Token)
   pub ahead_after : AreAhead input (lexed input end)
   ahead_after = record {
     given = known.given ++ lexeme start end token ∷ [];
-    spelled = subst (Spells 0 input)
-        (sym (append_assoc known.given (lexeme start end token ∷ []) (lexed input end))) spelled;
+    spelled = grind (arith, append_assoc, spelled);
   }
 
   pub stands_before : StandsBefore (record { input = input; ahead = lexed input end })

@@ -204,7 +204,7 @@ module _ {S C : Type 0} (step : S → Token → Result S Why) (finish : S → Re
   pub stopped : (end : ℕ) (s : S) (ls : List Lexeme) (fault : Fault)
       → read_on step finish end s ls ≡ Err fault → Stopped end s ls fault
   stopped end s [] fault e =
-      let h = placed_at (finish s) end end fault e in
+      let h : ((finish s) ≡ Err fault.why) × (fault.span.start ≡ end) × (fault.span.end ≡ end) = grind arith in
       record {
         before = [];
         after = [];

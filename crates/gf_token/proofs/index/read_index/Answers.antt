@@ -1,15 +1,10 @@
-use Rattle.std.proofs.Common.{ℕ, ◌+◌, ◌*◌, ◌<◌, ◌≤◌, ◌^◌, length, arith}
+use Rattle.std.proofs.Common.{◌+◌, ◌*◌, ◌<◌, ◌^◌, length, arith}
 use Rattle.std.proofs.Math.Nat.{pow-le-pow_right}
 use Rattle.std.proofs.lemmas.Bool.{cases_lt}
 use Rattle.std.proofs.lemmas.Grind.{pow_more}
 use Rattle.std.proofs.lemmas.Str.Parse.{digit_at}
 use Rattle.std.proofs.lemmas.Int.Digits.{digits_more, digits_value_more}
 use Rattle.gf_token.proofs.index.read_index.Goals as goal
-
--- a number after which a further digit has room in 64 bits
-has_room : (i n value : ℕ) → i < n → (n ≤ 19 → value < 10 ^ i) → (19 < n → value ≤ 2 ^ 32)
-    → value * 10 + 9 < 2 ^ 64
-has_room i n value h short long = grind (arith, cases_lt, pow-le-pow_right)
 
 pub returns-in_default : goal.returns-in_default
 returns-in_default c = grind (arith, digit_at)
@@ -18,18 +13,13 @@ pub overflow_mul-value : goal.overflow_mul-value
 overflow_mul-value c =
     let l = c.loop-byte in
     let digits = length c.args.text.now in
-    let room =
-    has_room l.byte-index digits l.value (omega arith) l.invariant.short l.invariant.long in
+    let room : l.value * 10 + 9 < 2 ^ 64 = grind (arith, cases_lt, pow-le-pow_right) in
     omega (arith, room)
 
 pub overflow_add-value : goal.overflow_add-value
 overflow_add-value c =
     let l = c.loop-byte in
-    grind (
-      arith,
-      has_room l.byte-index (length c.args.text.now) l.value (omega arith) l.invariant.short
-          l.invariant.long,
-    )
+    grind (arith, cases_lt, pow-le-pow_right)
 
 pub loop-byte-preserved : goal.loop-byte-preserved
 loop-byte-preserved c = grind (arith, digits_value_more, digits_more, pow_more)

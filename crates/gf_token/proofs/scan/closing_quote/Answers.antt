@@ -1,5 +1,7 @@
+use Rattle.gf_token.proofs.Steps.{lex_more}
+use Rattle.gf_token.proofs.Steps.{range_none}
 use Rattle.std.proofs.Common.{◌≡◌, ℕ, ◌+◌, ◌-◌, ◌∙◌, ap, arith, get_or}
-use Rattle.gf_token.proofs.Steps.{closes, opens}
+use Rattle.gf_token.proofs.Steps.{closes}
 use Rattle.gf_token.proofs.scan.closing_quote.Goals as goal
 
 pub returns-then-input-first-eq34 : goal.returns-then-input-first-eq34
@@ -11,4 +13,4 @@ returns-then-input-first-eq34 c =
     ap (λ (i : ℕ). get_or bytes i 0) before ∙ c.requires.quote in
     let other : get_or bytes (start + 1 - 1) 0 ≡ 92 → ⊥ = λ e. omega (arith, e, quote) in
     closes bytes start (start + 1) c.if-first-input.true c.if-input-first-eq34.true other
-    (opens bytes start c.requires.within c.requires.quote)
+    (grind (arith, lex_more, range_none))

@@ -1,5 +1,10 @@
+use Rattle.gf_token.proofs.Steps.{goes_on}
+use Rattle.gf_token.proofs.Steps.{lex_more}
+use Rattle.gf_token.proofs.Steps.{no_close}
+use Rattle.gf_token.proofs.Steps.{range_more}
+use Rattle.std.proofs.Common.{append_assoc}
 use Rattle.std.proofs.Common.{arith}
-use Rattle.gf_token.proofs.Steps.{stays_open, closes}
+use Rattle.gf_token.proofs.Steps.{closes}
 use Rattle.gf_token.proofs.scan.long_text_end.Goals as goal
 use Rattle.gf_token.proofs.scan.long_text_end.Goals.{
   else-input-at-eq34-via-then-input-at-eq34+else-input-at-ne92,
@@ -11,4 +16,4 @@ returns-then-input-at-ne92 c =
     (omega arith) c.if-input-at-eq34.true c.if-input-at-ne92.true c.loop-at.invariant.open_text
 
 pub loop-at-preserved : goal.loop-at-preserved
-loop-at-preserved c = grind (arith, stays_open c.args.input.now c.args.start)
+loop-at-preserved c = grind (arith, no_close, range_more, lex_more, append_assoc, goes_on)
