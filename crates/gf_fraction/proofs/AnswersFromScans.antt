@@ -12,7 +12,7 @@ use Rattle.gf_fraction.specs.inner.NumberScan.{reading_of, IsValueOf, HasReading
 use Rattle.gf_fraction.specs.declared.read.Spelling.{Spelling}
 use Rattle.gf_fraction.specs.declared.fraction.NumberFault.{NumberFault}
 use Rattle.gf_fraction.proofs.PowersOfTen.{power_of_ten-above}
-use Rattle.gf_fraction.proofs.SpelledIsFound.{Unsigned, Unsigned-digits}
+use Rattle.gf_fraction.proofs.SpelledIsFound.{Unsigned}
 use Rattle.gf_fraction.proofs.SpelledIsFound.{digit_unsigned, ascii_from_digit}
 use Rattle.gf_fraction.proofs.SpelledIsFound.{sign_split, scan_shape, capped_exponent, held}
 use Rattle.gf_fraction.proofs.FoundIsSpelled.{FoundNumber}
@@ -23,7 +23,7 @@ Unsigned-append text more some h = grind arith
 
 plain_unsigned : (text digits : List ℕ) (places : ℕ) → IsPlain text digits places
     → Unsigned text × (0 < length text)
-plain_unsigned text _ _ (whole _ is) = (Unsigned-digits text is.1, is.0)
+plain_unsigned text _ _ (whole _ is) = ((grind arith), is.0)
 plain_unsigned _ _ _ (pointed [] after is) = ((refl, refl), omega arith)
 plain_unsigned _ _ _ (pointed (b ∷ bs) after is) = grind arith
 
@@ -52,9 +52,6 @@ bounded_held r h = grind arith
 pub zero_held : (r : Reading) → den_of (reading_of (held r)) ≡ 0 → den_of r ≡ 0
 zero_held r h = grind (arith, power_of_ten-above, capped_exponent)
 
-pub above_held : (r : Reading) → 0 < den_of (reading_of (held r)) → 0 < den_of r
-above_held r h = grind (arith, power_of_ten-above)
-
 pub zero_kept : (r : Reading) → den_of r ≡ 0 → den_of (reading_of (held r)) ≡ 0
 zero_kept r h = grind (arith, power_of_ten-above)
 
@@ -67,7 +64,7 @@ number_from_value text negative s r f v = grind (arith, held, bounded_held)
 pub fault_from_reading : (text : List ℕ) (negative : Bool) (s : Spelling) (fault : NumberFault)
     → FoundNumber text negative s → HasReadingFault (reading_of s) fault → HasNumberFault text fault
 fault_from_reading text negative s fault h h' =
-    grind (arith, held, zero_held, above_held, bounded_kept)
+    grind (arith, held, power_of_ten-above, capped_exponent, bounded_kept)
 
 pub unspelled : (text : List ℕ) → scan (after_sign text) ≡ None
     → (negative : Bool) (reading : Reading) → ¬ (SpellsReading text negative reading)

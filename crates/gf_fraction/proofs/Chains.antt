@@ -1,8 +1,9 @@
 -- Equations of rationals, one after another, and what they are put together from.
+use Rattle.std.proofs.Common.{arith}
 use Rattle.gf_fraction.specs.Ratio.{Ratio}
 use Rattle.gf_fraction.specs.Rational.{IsEqual, plus, times}
 use Rattle.gf_fraction.proofs.Rationals.{equal_refl, equal_sym, equal_trans, plus_both}
-use Rattle.gf_fraction.proofs.Rationals.{times_both, plus_comm, plus_assoc, IsAbove, plus_above}
+use Rattle.gf_fraction.proofs.Rationals.{times_both, plus_assoc, IsAbove, plus_above}
 
 pub ◌then◌ : {x y z : Ratio} → IsEqual x y → IsEqual y z → IsEqual x z
 ◌then◌ {x} {y} {z} h k = equal_trans x y z h k
@@ -29,6 +30,6 @@ plus_across a b c d ha hb hc hd =
     plus_assoc a b (plus c d) ha hb (plus_above c d hc hd)
     then plus_right a ha
     (back (plus_assoc b c d hb hc hd)
-    then plus_left d hd (plus_comm b c hb hc)
+    then plus_left d hd (grind arith)
     then plus_assoc c b d hc hb hd)
     then back (plus_assoc a c (plus b d) ha hc (plus_above b d hb hd))

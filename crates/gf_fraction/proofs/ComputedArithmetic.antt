@@ -1,5 +1,5 @@
 -- Computed sums and products are those of the relations.
-use Rattle.std.proofs.Common.{◌≡◌, ℕ, ℤ, pos, suc, zero, ◌*◌, ◌/◌, ◌%◌, ◌^◌, ◌<◌}
+use Rattle.std.proofs.Common.{◌≡◌, ℕ, ℤ, pos, suc, zero, ◌*◌, ◌/◌, ◌%◌, ◌^◌, ◌<◌, rules}
 use Rattle.std.proofs.Common.{Bool, true, false, Option, Some, None, MatchOption}
 use Rattle.std.proofs.Common.{arith, refl, sym, subst, ◌⊎◌}
 use Rattle.std.specs.Prelude.{◌&&◌, ◌*ℤ◌, ◌+ℤ◌, unsigned_abs, int_lt, nat_lt, if◌then◌else◌}
@@ -65,17 +65,8 @@ module _ (x y : Ratio) (hx : IsFraction x) (hy : IsFraction y) where
   right = y.num *ℤ pos q
 
   adding : Adding x y x.num y.num x.den y.den g p q
-  adding = record {
-    left = hx;
-    right = hy;
-    left_num = refl;
-    right_num = refl;
-    left_den = refl;
-    right_den = refl;
-    gcd = IsGcd-within (suc y.den) x.den y.den (omega arith);
-    left_by = refl;
-    right_by = refl;
-  }
+  adding =
+      search (rules, IsGcd-within)
 
   test : Bool
   test =
@@ -135,15 +126,10 @@ module _ (x y : Ratio) (hx : IsFraction x) (hy : IsFraction y) where
   fits_product : ProductFits x y → IsFraction product
   fits_product fits = grind (arith, one_lowest, IsLowestRatio-fraction, lowest, above, value)
 
-  by_size : (a b : Bool) → nat_lt product.den (2 ^ 127) ≡ a → is_within product.num ≡ b
-      → MatchOption (if a && b then Some product else None) (¬ (ProductFits x y))
-      (λ r. IsFraction r × IsProduct r x y)
-  by_size a b h h' = grind (arith, lowest, ltb-true, value, fits_product, ltb-false)
-
   pub product_is_computed : MatchOption (product_of x y) (¬ (ProductFits x y))
       (λ r. IsFraction r × IsProduct r x y)
   unfolding product_of
-  product_is_computed = by_size (nat_lt product.den (2 ^ 127)) (is_within product.num) refl refl
+  product_is_computed = grind (arith, lowest, ltb-true, value, fits_product, ltb-false)
 
 -- what adding and multiplying answer is what is computed
 module _ (x y : Ratio) (hx : IsFraction x) (hy : IsFraction y) where

@@ -38,9 +38,6 @@ mod-mul a b k above some =
     let lt : a % b * k < b * k = mul-lt-mul_of_pos_right (mod-lt a above) some in
     ap (λ x. x % (b * k)) e ∙ add-mul-mod_self_right (a % b * k) (a / b) (b * k) ∙ mod-eq_of_lt lt
 
-IsGcd-to_mod : (a b g : ℕ) → IsGcd a b g → IsGcd b (a % b) g
-IsGcd-to_mod a b g is = grind (arith, dvd-mod_iff)
-
 -- along Euclid's steps
 IsGcd-mul_below : (n a b g k : ℕ) → b < n → 0 < k → IsGcd a b g → IsGcd (a * k) (b * k) (g * k)
 IsGcd-mul_below zero a b g k h some is = absurd (omega arith)
@@ -51,7 +48,7 @@ IsGcd-mul_below (suc n) a zero g k h some is =
 IsGcd-mul_below (suc n) a (suc b) g k h some is =
     let above : 0 < suc b = omega arith in
     let less : a % suc b < n = omega (arith, mod-lt a above) in
-    let step = IsGcd-mul_below n (suc b) (a % suc b) g k less some (IsGcd-to_mod a (suc b) g is) in
+    let step = IsGcd-mul_below n (suc b) (a % suc b) g k less some (grind (arith, dvd-mod_iff)) in
     IsGcd-from_mod (a * k) (suc b * k) (g * k)
     (subst (λ x. IsGcd (suc b * k) x (g * k)) (sym (mod-mul a (suc b) k above some)) step)
 
@@ -96,7 +93,7 @@ pub IsLowest-apart : (n d k : ℕ) → HoldsCommon n d k → IsGcd n k 1 → IsL
 IsLowest-apart n d k h is = grind (arith, IsGcd-common n d k 1 h is)
 
 pub IsLowest-same : (n d k : ℕ) → HoldsCommon n d k → k ≡ 1 → IsLowest n d n d
-IsLowest-same n d k h one = IsLowest-apart n d k h (rw one (IsGcd-one_right n))
+IsLowest-same n d k h one = grind (arith, IsGcd-common n d k 1 h (rw one (IsGcd-one_right n)))
 
 pub IsLowest-zero : (n d : ℕ) → n ≡ 0 → IsLowest n d 0 1
 IsLowest-zero n d none =

@@ -1,8 +1,7 @@
 -- Laws of ℤ that std lacks, and sizes with a sign.
-use Rattle.std.proofs.Common.{◌≡◌, ℕ, ℤ, pos, ◌+◌, ◌*◌, ◌<◌, Bool, not, arith, ap, sym, ◌∙◌}
+use Rattle.std.proofs.Common.{◌≡◌, ℕ, ℤ, pos, ◌+◌, ◌*◌, ◌<◌, Bool, arith, ap, sym, ◌∙◌}
 use Rattle.std.specs.Prelude.{◌*ℤ◌, ◌+ℤ◌, unsigned_abs, int_lt}
 use Rattle.std.proofs.Math.IntN.{*ℤ_comm}
-use mathlib.Core.Bool.{beq}
 use borrow.Author.Differences.{up, down, product_is, same_in, sum_is_lem}
 use Rattle.gf_fraction.specs.Ratio.{signed}
 
@@ -62,7 +61,3 @@ signed-unsigned_abs z = grind arith
 
 pub signed-* : (s : Bool) (m n : ℕ) → signed s m *ℤ pos n ≡ signed s (m * n)
 signed-* s m n = grind arith
-
--- the sign of a product is negative if the signs differ
-pub signed-*ℤ : (s t : Bool) (m n : ℕ) → signed s m *ℤ signed t n ≡ signed (not (beq s t)) (m * n)
-signed-*ℤ s t m n = grind arith

@@ -3,18 +3,8 @@ use Rattle.std.proofs.Common.{length-append, add-one, length, get_or, arith, tru
 use Rattle.std.proofs.Common.{refl, ◌≡◌, ◌+◌, ◌-◌, ◌*◌, ◌<◌, ◌≤◌, ◌∷◌, sym, ◌∙◌, [], ap, ℕ}
 use Rattle.std.specs.Char.{digit_value, is_ascii_digit}
 use Rattle.std.specs.Str.Parse.{digits_value_after}
-use Rattle.std.proofs.lemmas.Bool.Decides.{nat_tests}
 use Rattle.std.proofs.Math.Seq.{drop-cons}
 use Rattle.gf_fraction.specs.inner.NumberScan.{capped, leading, unread, leading_value}
-
--- a digit's value
-pub digit_value-ascii : (c : ℕ) → is_ascii_digit c ≡ true → digit_value c ≡ c - 48
-digit_value-ascii c h = grind (arith, nat_tests)
-
--- one more digit, and none
-pub leading_value-digit : (v c : ℕ) (cs : List ℕ) → is_ascii_digit c ≡ true
-    → leading_value v (c ∷ cs) ≡ leading_value (v * 10 + (c - 48)) cs
-leading_value-digit v c cs h = grind arith
 
 pub unread-digit : (c : ℕ) (cs : List ℕ) → is_ascii_digit c ≡ true → unread (c ∷ cs) ≡ unread cs
 unread-digit c cs h = rw h
@@ -33,7 +23,7 @@ module _ (text : List ℕ) (i : ℕ) (within : i < length text) where
   pub leading_value-drop : (v : ℕ) → is_ascii_digit (get_or text i 0) ≡ true
       → leading_value v (drop i text)
       ≡ leading_value (v * 10 + (get_or text i 0 - 48)) (drop (i + 1) text)
-  leading_value-drop v h = ap (leading_value v) at ∙ leading_value-digit v here more h
+  leading_value-drop v h = ap (leading_value v) at ∙ (grind arith)
 
   pub unread-drop : is_ascii_digit (get_or text i 0) ≡ true
       → unread (drop i text) ≡ unread (drop (i + 1) text)

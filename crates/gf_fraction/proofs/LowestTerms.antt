@@ -1,6 +1,6 @@
 -- Ratios in lowest terms: when they are fractions, which value they have, and that no other ratio
 -- has it.
-use Rattle.std.proofs.Common.{◌≡◌, ℕ, ℤ, Bool, pos, ◌*◌, ◌^◌, ◌<◌, ◌≤◌, arith, ap, refl, sym}
+use Rattle.std.proofs.Common.{◌≡◌, ℕ, ℤ, Bool, pos, ◌*◌, ◌^◌, ◌<◌, arith, ap, refl, sym}
 use Rattle.std.proofs.Common.{◌∙◌, subst}
 use Rattle.std.specs.Prelude.{◌*ℤ◌, unsigned_abs, int_lt}
 use Rattle.std.specs.Int.{IsGcd, ◌∣◌}
@@ -10,7 +10,7 @@ use Rattle.std.proofs.Math.Nat.{dvd-mul_left, le-mul_of_pos_right}
 use Rattle.gf_fraction.specs.Ratio.{Ratio, IsFraction, IsWithin, HasValue, signed}
 use Rattle.gf_fraction.specs.inner.Steps.{IsLowest}
 use Rattle.gf_fraction.proofs.Divisors.{dvd_of_dvd-mul}
-use Rattle.gf_fraction.proofs.Integers.{unsigned_abs-signed, signed-unsigned_abs, signed-*}
+use Rattle.gf_fraction.proofs.Integers.{unsigned_abs-signed, signed-*}
 use Rattle.gf_fraction.proofs.Integers.{*ℤ_right_comm, *ℤ-cancel_right}
 
 -- a product above zero has parts above zero
@@ -20,10 +20,6 @@ mul_pos_left p q n e h = grind arith
 pub mul_pos_right : (p q n : ℕ) → p * q ≡ n → 0 < n → 0 < q
 mul_pos_right p q n e h = grind arith
 
--- a part of a product above zero is no greater
-pub part_le : (p by n : ℕ) → 0 < by → p * by ≡ n → p ≤ n
-part_le p by n above e = omega (arith, le-mul_of_pos_right p above)
-
 -- a size and a denominator, reduced, with the sign: the fraction of that value
 pub fraction_from : (s : Bool) (n d p q : ℕ) → 0 < d → d < 2 ^ 127 → n < 2 ^ 127 → IsLowest n d p q
     → IsFraction (record { num = signed s p; den = q })
@@ -32,8 +28,8 @@ fraction_from s n d p q some dw nw low =
     let same = unsigned_abs-signed s p in
     record {
       den_above_zero = mul_pos_left q low.by d low.den some;
-      den_within = omega (arith, part_le q low.by d above low.den);
-      num_within = omega (arith, same, part_le p low.by n above low.num);
+      den_within = omega (arith, le-mul_of_pos_right q above);
+      num_within = omega (arith, same, le-mul_of_pos_right p above);
       lowest = subst (λ k. IsGcd k q 1) (sym same) low.apart;
     }
 
@@ -55,7 +51,7 @@ pub reduced_value : (z low : ℤ) (size d p q : ℕ) → size ≡ unsigned_abs z
     → low ≡ signed (int_lt z (pos 0)) p → HasValue (record { num = low; den = q }) z d
 reduced_value z low size d p q e is l =
     let s = int_lt z (pos 0) in
-    let n : signed s size ≡ z = ap (signed s) e ∙ signed-unsigned_abs z in
+    let n : signed s size ≡ z = ap (signed s) e ∙ (grind arith) in
     let F : ℤ → ℤ → Type 0 = λ num value. HasValue (record { num = num; den = q }) value d in
     let value : F (signed s p) z = subst (F (signed s p)) n (value_from s size d p q is) in
     subst (λ num. F num z) (sym l) value
@@ -74,10 +70,7 @@ pub record IsLowestRatio (r : Ratio) : Type 0 where
 pub same_from_value : (x y : Ratio)
     → IsLowestRatio x → IsLowestRatio y → x.num *ℤ pos y.den ≡ y.num *ℤ pos x.den → x ≡ y
 same_from_value x y hx hy e =
-    let abs : unsigned_abs x.num * y.den ≡ unsigned_abs y.num * x.den =
-    sym (unsigned_abs-mul x.num (pos y.den))
-    ∙ ap unsigned_abs e
-    ∙ unsigned_abs-mul y.num (pos x.den) in
+    let abs : unsigned_abs x.num * y.den ≡ unsigned_abs y.num * x.den = grind (arith, unsigned_abs-mul) in
     let xd : x.den ∣ y.den =
     dvd_of_dvd-mul x.den (unsigned_abs x.num) y.den (IsGcd-swap _ _ _ hx.lowest)
     (subst (λ k. x.den ∣ k) (sym abs) (dvd-mul_left x.den (unsigned_abs y.num))) in
@@ -93,11 +86,7 @@ same_from_value x y hx hy e =
 pub one_lowest : (x y : Ratio) (n : ℤ) (d : ℕ)
     → IsLowestRatio x → IsLowestRatio y → 0 < d → HasValue x n d → HasValue y n d → x ≡ y
 one_lowest x y n d hx hy above vx vy =
-    let grown : (x.num *ℤ pos y.den) *ℤ pos d ≡ (y.num *ℤ pos x.den) *ℤ pos d =
-    *ℤ_right_comm x.num (pos y.den) (pos d)
-    ∙ ap (λ z. z *ℤ pos y.den) vx
-    ∙ *ℤ_right_comm n (pos x.den) (pos y.den)
-    ∙ ap (λ z. z *ℤ pos x.den) (sym vy) ∙ *ℤ_right_comm y.num (pos d) (pos x.den) in
+    let grown : (x.num *ℤ pos y.den) *ℤ pos d ≡ (y.num *ℤ pos x.den) *ℤ pos d = grind (arith, *ℤ_right_comm) in
     same_from_value x y hx hy
     (*ℤ-cancel_right (x.num *ℤ pos y.den) (y.num *ℤ pos x.den) d above grown)
 

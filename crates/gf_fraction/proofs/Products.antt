@@ -1,4 +1,5 @@
 -- Products: their value, and when they fit.
+use Rattle.std.proofs.Common.{rules}
 use Rattle.std.proofs.Common.{◌≡◌, ℕ, ℤ, Bool, pos, not, ◌*◌, ◌^◌, ◌<◌, arith, ap, sym, ◌∙◌, subst}
 use Rattle.std.specs.Prelude.{◌*ℤ◌, unsigned_abs, int_lt}
 use Rattle.std.specs.Int.{IsGcd, ◌∣◌}
@@ -10,7 +11,6 @@ use Rattle.gf_fraction.specs.Product.{IsProduct, ProductFits}
 use Rattle.gf_fraction.specs.inner.Steps.{IsLowest}
 use Rattle.gf_fraction.proofs.Divisors.{coprime-mul, coprime_parts}
 use Rattle.gf_fraction.proofs.Integers.{unsigned_abs-signed, signed-unsigned_abs, signed-*}
-use Rattle.gf_fraction.proofs.Integers.{signed-*ℤ}
 use Rattle.gf_fraction.proofs.LowestTerms.{IsLowestRatio, IsLowestRatio-fraction, one_lowest}
 use Rattle.gf_fraction.proofs.LowestTerms.{mul_pos_left}
 
@@ -69,8 +69,7 @@ module _ (x y : Ratio) (m n : ℕ) (b d p q r s : ℕ) (h : Multiplying x y m n 
       ∙ (λ i. first.num i * second.num i * (s * q)) in
       let size = unsigned_abs x.num * unsigned_abs y.num in
       let num : signed sign size ≡ x.num *ℤ y.num =
-      sym (signed-*ℤ (int_lt x.num (pos 0)) (int_lt y.num (pos 0))
-      (unsigned_abs x.num) (unsigned_abs y.num))
+      sym (grind arith)
       ∙ (λ i. signed-unsigned_abs x.num i *ℤ signed-unsigned_abs y.num i) in
       signed-* sign (p * r) (x.den * y.den)
       ∙ ap (signed sign) sizes
@@ -78,10 +77,8 @@ module _ (x y : Ratio) (m n : ℕ) (b d p q r s : ℕ) (h : Multiplying x y m n 
       ∙ ap (λ z. z *ℤ pos (s * q)) num
 
   is_lowest : IsLowestRatio product
-  is_lowest = record {
-    den_above_zero = den_above;
-    lowest = subst (λ k. IsGcd k (s * q) 1) (sym (unsigned_abs-signed sign (p * r))) apart;
-  }
+  is_lowest =
+      search (rules, den_above, unsigned_abs-signed, apart)
 
   -- the product of the reduced parts is the product
   pub product_fraction : (num : ℤ) (den : ℕ) → num ≡ signed sign (p * r) → den ≡ s * q
@@ -89,7 +86,7 @@ module _ (x y : Ratio) (m n : ℕ) (b d p q r s : ℕ) (h : Multiplying x y m n 
   product_fraction num den en ed wn wd =
       let F : (ℤ × ℕ) → Type 0 = λ t. IsFraction (record { num = t.0; den = t.1 }) in
       subst F (λ i. (sym en i, sym ed i)) (record {
-        den_above_zero = den_above;
+        den_above_zero = grind (arith, mul_above, mul_pos_left, second, first);
         den_within = wd;
         num_within = subst (λ k. k < 2 ^ 127) (sym (unsigned_abs-signed sign (p * r))) wn;
         lowest = is_lowest.lowest;

@@ -66,23 +66,16 @@ part x y b d h =
 pub plus_both : (x u y v : Ratio) → IsEqual x u → IsEqual y v → IsEqual (plus x y) (plus u v)
 plus_both x u y v h k = grind (arith, mul_above, add-*ℤ, part, at)
 
--- (a * b) * (c * d) is (a * c) * (b * d)
-across : (a b c d : ℤ) → (a *ℤ b) *ℤ (c *ℤ d) ≡ (a *ℤ c) *ℤ (b *ℤ d)
-across a b c d = grind (arith, *ℤ_assoc, *ℤ_right_comm)
-
 pub times_both : (x u y v : Ratio) → IsEqual x u → IsEqual y v → IsEqual (times x y) (times u v)
 times_both x u y v h k = record {
   left = mul_above x.den y.den h.left k.left;
   right = mul_above u.den v.den h.right k.right;
-  crosswise = across x.num y.num (pos u.den) (pos v.den)
+  crosswise = (grind (arith, *ℤ_assoc, *ℤ_right_comm))
       ∙ (λ i. h.crosswise i *ℤ k.crosswise i)
-      ∙ across u.num (pos x.den) v.num (pos y.den);
+      ∙ (grind (arith, *ℤ_assoc, *ℤ_right_comm));
 }
 
 -- ---- laws
-
-pub plus_comm : (x y : Ratio) → 0 < x.den → 0 < y.den → IsEqual (plus x y) (plus y x)
-plus_comm x y hx hy = grind arith
 
 pub plus_assoc : (x y z : Ratio) → 0 < x.den → 0 < y.den → 0 < z.den
     → IsEqual (plus (plus x y) z) (plus x (plus y z))

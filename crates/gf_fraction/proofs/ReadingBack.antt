@@ -22,7 +22,7 @@ use Rattle.gf_fraction.specs.declared.fraction.NumberFault.TheVariants.{NotANumb
 use Rattle.gf_fraction.specs.declared.fraction.NumberFault.TheVariants.{TooLarge}
 use Rattle.gf_fraction.proofs.LowestTerms.{one_fraction}
 use Rattle.gf_fraction.proofs.SpelledIsFound.{held}
-use Rattle.gf_fraction.proofs.AnswersFromScans.{scan_spelled, bounded_kept, bounded_held, zero_held}
+use Rattle.gf_fraction.proofs.AnswersFromScans.{scan_spelled, bounded_kept, zero_held}
 use Rattle.gf_fraction.proofs.AnswersFromScans.{zero_kept}
 
 -- two readings of one text agree but for what is too large
@@ -38,7 +38,7 @@ module _ (text : List ℕ) (m n : Bool) (x y : Reading) (hx : SpellsReading text
   same_bounded bx by = sym (bounded_kept x bx) ∙ ap reading_of same_held ∙ bounded_kept y by
 
   bounded_too : IsBounded x → IsBounded y
-  bounded_too bx = grind (arith, held, same_held, bounded_kept, bounded_held)
+  bounded_too bx = grind (arith, held, same_held, bounded_kept)
 
   zero_too : den_of x ≡ 0 → den_of y ≡ 0
   zero_too z = zero_held y (ap (λ k. den_of (reading_of k)) (sym same_held) ∙ zero_kept x z)
@@ -170,10 +170,7 @@ fraction_is_read r h =
         has_shape = fraction (digits w.size) (digits r.den) n.0 d.0;
       };
       den_above_zero = subst (λ k. 0 < k) (sym d.1) h.den_above_zero;
-      bounded = (
-        subst (λ k. k < 2 ^ 127) (sym n.1) within,
-        subst (λ k. k < 2 ^ 127) (sym d.1) h.den_within,
-      );
+      bounded = grind arith;
       fraction = h;
       value = (λ i. w.value i *ℤ pos (d.1 i)) ∙ (λ i. signed w.negative (sym n.1 i) *ℤ pos r.den);
     }

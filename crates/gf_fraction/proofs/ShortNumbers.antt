@@ -1,10 +1,10 @@
 -- Short numbers: what is read of a text one part at a time spells a number.
 use Rattle.std.proofs.Common.{Bool, ◌≡◌, ℕ, pos, ◌+◌, ◌-◌, ◌*◌, ◌^◌, ◌<◌, ◌≤◌, true, List, [], ◌∷◌}
 use Rattle.std.proofs.Common.{◌++◌, length, get_or, take, drop, arith, lit<, refl, ap, sym, ◌∙◌}
-use Rattle.std.proofs.Common.{subst, append_assoc, length-append, Option}
+use Rattle.std.proofs.Common.{subst, append_assoc, length-append}
 use Rattle.std.specs.Char.{digit_value, is_ascii_digit}
 use Rattle.std.specs.Str.Parse.{AllDigits, IsNumeral, digits_value, digits_value_after}
-use Rattle.std.specs.Prelude.{◌-ℤ◌, MatchOption}
+use Rattle.std.specs.Prelude.{◌-ℤ◌}
 use Rattle.std.proofs.lemmas.Int.{ints}
 use Rattle.std.proofs.lemmas.List.{append-nil, take_all, take_more}
 use Rattle.std.proofs.Math.Seq.{take-append_seam}
@@ -15,8 +15,8 @@ use Rattle.gf_fraction.specs.NumberSpelling.{scaled_digits, power_of_ten, IsPlai
 use Rattle.gf_fraction.specs.NumberSpelling.Reading.{decimal, rational}
 use Rattle.gf_fraction.specs.NumberSpelling.HasShape.{plain, fraction}
 use Rattle.gf_fraction.specs.inner.NumberScan.{AreRead, Completes, after_sign}
-use Rattle.gf_fraction.specs.ReadOn.{BeginsNoDigit, EndsDigits, IsLeft, IsReadOn}
-use Rattle.gf_fraction.specs.inner.ShortNumber.{IsLeftByWords, IsReadInWords, Stops}
+use Rattle.gf_fraction.specs.ReadOn.{EndsDigits, IsLeft, IsReadOn}
+use Rattle.gf_fraction.specs.inner.ShortNumber.{IsLeftByWords, IsReadInWords}
 use Rattle.gf_fraction.specs.inner.ShortNumber.IsReadInWords.{whole}
 use Rattle.gf_fraction.specs.inner.ShortNumber.IsLeftByWords.{no_denominator, many_places}
 use Rattle.gf_fraction.proofs.Divisors.{IsGcd-one_right}
@@ -49,13 +49,6 @@ module _ (text : List ℕ) (i : ℕ) (within : i < length text)
 pub first_and_more : (text : List ℕ) (b : ℕ) → 1 ≤ length text → get_or text 0 0 ≡ b
     → text ≡ b ∷ take (length text - 1) (drop 1 text)
 first_and_more text b some first = grind (arith, take_all)
-
-pub no_byte : (text : List ℕ) → length text < 1 → EndsDigits text
-no_byte text none = grind arith
-
-pub other_byte : (text : List ℕ) → ¬ (get_or text 0 0 ≡ 47) → ¬ (get_or text 0 0 ≡ 46)
-    → EndsDigits text
-other_byte text h h' = grind arith
 
 pub whole_completes : (n : ℕ) (text : List ℕ) → n < 2 ^ 64 → EndsDigits text
     → Completes n text n 1 text
@@ -133,8 +126,7 @@ decimal_completes n v p q places text after rest short point h count few low =
         places_within = omega arith;
         exponent_within = omega arith;
         power_within = omega (arith, ints);
-        scaled_within = subst (λ z. scaled_digits v z < 2 ^ 127) (sym whole)
-            (let h : v < 2 ^ 127 = omega arith in h);
+        scaled_within = grind arith;
       };
       lowest = subst (λ z. IsLowest (scaled_digits v z) (power_of_ten z) p q) (sym whole) low;
     }
@@ -158,26 +150,18 @@ decimal_left n v places text after rest point h count many =
 
 -- ---- how far it is read on, whatever room there is
 
-no_digit : (v : ℕ) (rest : List ℕ) → v ≡ 0 → Stops v rest → BeginsNoDigit rest
-no_digit v rest none h = grind (arith, digit_from_ascii)
-
-read_on : (n : ℕ) (more rest : List ℕ) → IsReadInWords n more rest → IsReadOn more rest
+pub read_on : (n : ℕ) (more rest : List ℕ) → IsReadInWords n more rest → IsReadOn more rest
 read_on n _ _ (IsReadInWords.whole rest ends) = IsReadOn.whole rest ends
 read_on n _ _ (IsReadInWords.rational den rest run above) =
     IsReadOn.rational den rest run.all above
 read_on n _ _ (IsReadInWords.pointed after rest run few) =
     IsReadOn.pointed after rest run.all
 
-left : (n : ℕ) (text : List ℕ) → IsLeftByWords n text → IsLeft text
+pub left : (n : ℕ) (text : List ℕ) → IsLeftByWords n text → IsLeft text
 left n _ (no_denominator den rest run zero) =
-    IsLeft.no_denominator den rest run.all zero (no_digit _ rest zero run.stops)
+    IsLeft.no_denominator den rest run.all zero (grind (arith, digit_from_ascii))
 left n _ (many_places after rest run many) =
     IsLeft.many_places after rest run.all (omega (arith, many))
-
-pub reads_on : (n : ℕ) (text : List ℕ) (o : Option (Ratio × ℕ))
-    → MatchOption o (IsLeftByWords n text) (λ r. IsReadInWords n (take r.1 text) (drop r.1 text))
-    → MatchOption o (IsLeft text) (λ r. IsReadOn (take r.1 text) (drop r.1 text))
-reads_on n text o h = grind (arith, left, read_on)
 
 -- ---- the number
 

@@ -75,13 +75,10 @@ factors_of_ten n d p fives is same =
 
 -- ---- dividing them out
 
-some_factor : (c m : ℕ) → 0 < c * m → 0 < c
-some_factor c m h = grind arith
-
 -- a factor of all three numbers
 held_both : (p q k f : ℕ) → 0 < f → HoldsCommon (p * f) (q * f) (k * f) → HoldsCommon p q k
 held_both p q k f some h = record {
-  above_zero = some_factor k f h.above_zero;
+  above_zero = grind arith;
   part = dvd_of_mul-dvd-mul_right _ some h.part;
   all =
       λ c left right. dvd_of_mul-dvd-mul_right _ some
@@ -91,7 +88,7 @@ held_both p q k f some h = record {
 -- a factor of k that has no common divisor with p except 1
 held_apart : (p q k m : ℕ) → IsGcd p m 1 → HoldsCommon p q (k * m) → HoldsCommon p q k
 held_apart p q k m apart h = record {
-  above_zero = some_factor k m h.above_zero;
+  above_zero = grind arith;
   part = dvd_trans k (dvd-mul_right k m) h.part;
   all =
       λ c left right.
@@ -138,8 +135,7 @@ module _ (f n d p q k left : ℕ) (prime : IsPrime f) (h : IsReduced n d p q (k 
 
   pub all_divided : left ≡ 0 → IsReduced n d p q k
   all_divided none =
-      let one : f ^ left ≡ 1 = ap (λ e. f ^ e) none ∙ pow-zero f in
-      left_apart n d p q k (f ^ left) (subst (λ m. IsGcd p m 1) (sym one) (IsGcd-one_right p)) h
+      grind (arith, pow-zero, left_apart, IsGcd-one_right)
 
   pub no_more : 0 < p % f → IsReduced n d p q k
   no_more odd = left_apart n d p q k (f ^ left) (coprime-pow p f left (prime.apart p odd)) h
@@ -159,10 +155,7 @@ divided_twos n d k count twos some fits is h =
     let parts : twos + more ≡ count = omega (arith, is) in
     let zeros = (bit_at-trailing_zeros w64 n some fits).2 in
     let turned : more + twos ≡ count = omega (arith, parts) in
-    let e : k * 2 ^ count ≡ k * 2 ^ more * 2 ^ twos =
-    ap (λ c. k * 2 ^ c) (sym turned)
-    ∙ ap (λ x. k * x) (pow-add 2 more twos)
-    ∙ (let m : k * (2 ^ more * 2 ^ twos) ≡ k * 2 ^ more * 2 ^ twos = omega arith in m) in
+    let e : k * 2 ^ count ≡ k * 2 ^ more * 2 ^ twos = grind (arith, pow-add) in
     left_apart n d _ _ k (2 ^ more) (odd_apart n twos count more some fits parts is)
     (divided_by (2 ^ twos) n d n d (k * 2 ^ more) (pow_pos twos)
     (low_bits n twos (λ i b. zeros i (omega (arith, b, is))))

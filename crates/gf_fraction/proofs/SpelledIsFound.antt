@@ -153,7 +153,7 @@ scan_exponent_is : (sign digits : List ℕ) (negative : Bool)
     → IsSign sign negative → IsNumeral 10 digits → scan_exponent (sign ++ digits)
     ≡ Some (capped_exponent (signed negative (digits_value 10 digits)))
 scan_exponent_is sign digits negative is_sign is =
-    grind (arith, sign_split, Unsigned-digits, leading-digits, above_zero, capped_exponent-signed)
+    grind (arith, sign_split, Unsigned-digits, leading-digits, above_zero)
 
 -- with an exponent
 exponent_ends : (more : List ℕ) (exponent : ℤ) → IsExponent more exponent → Ends more
@@ -165,16 +165,12 @@ exponent_ends more exponent h =
           (mark 69 (h.sign ++ h.digits) (inr refl))
     ])
 
-end_exponent : (v places : ℕ) (more : List ℕ) (exponent : ℤ) → IsExponent more exponent
-    → scan_end v places more ≡ Some (Decimal v places (capped_exponent exponent))
-end_exponent v places more exponent h = grind (arith, scan_exponent_is)
-
 pub scan_shape : (text : List ℕ) (reading : Reading) → HasShape text reading
     → scan text ≡ Some (held reading)
 scan_shape text _ (plain _ digits places is) =
     ap scan (sym (append-nil text)) ∙ scan_plain text digits [] places is none
 scan_shape _ _ (raised text more digits places exponent is by) =
     scan_plain text digits more places is (exponent_ends more exponent by)
-    ∙ end_exponent (capped (digits_value 10 digits)) places more exponent by
+    ∙ (grind (arith, scan_exponent_is))
 scan_shape _ _ (fraction num den is_num is_den) =
     grind (arith, append_assoc, leading-append, leading-digits, above_zero)

@@ -1,6 +1,6 @@
 -- Sums: when they fit, and what they share with their denominator.
 use Rattle.std.proofs.Common.{◌≡◌, ℕ, ℤ, pos, negsuc, suc, ◌+◌, ◌-◌, ◌*◌, ◌/◌}
-use Rattle.std.proofs.Common.{◌^◌, ◌<◌, ◌≤◌, arith, ap, sym, ◌∙◌, subst, inl, inr}
+use Rattle.std.proofs.Common.{◌<◌, arith, ap, sym, ◌∙◌, subst, inl, inr}
 use Rattle.std.specs.Prelude.{◌*ℤ◌, ◌+ℤ◌, unsigned_abs}
 use Rattle.std.specs.Int.{IsGcd, ◌∣◌}
 use Rattle.std.proofs.lemmas.Int.{ints, unsigned_abs-mul}
@@ -235,9 +235,6 @@ Adding-equal x y a c b d hx hy ea ec eb ed e =
 pub equal_parts : (x y : Ratio) (a c n : ℤ) (b d : ℕ)
     → Adding x y a c b d b 1 1 → n ≡ a +ℤ c → IsWithin n → PartsFit a c b 1 1
 equal_parts x y a c n b d h en within = grind arith
-
-pub equal_overflows : (a c : ℤ) (b : ℕ) → 2 ^ 127 ≤ unsigned_abs (a +ℤ c) → ¬ (PartsFit a c b 1 1)
-equal_overflows a c b over parts = grind arith
 
 pub equal_value : (r x y : Ratio) (a c n : ℤ) (b d : ℕ)
     → Adding x y a c b d b 1 1 → n ≡ a +ℤ c → HasValue r n b → IsSum r x y

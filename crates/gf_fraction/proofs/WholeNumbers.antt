@@ -30,9 +30,6 @@ pub is_sign_of : (negative : Bool) → IsSign (sign_of negative) negative
 is_sign_of false = absent
 is_sign_of true = minus
 
-within_signed : (negative : Bool) (n : ℕ) → n < 2 ^ 127 → IsWithin (signed negative n)
-within_signed negative n h = grind arith
-
 pub lowest_whole : (n : ℕ) → IsGcd n 1 1
 lowest_whole n = IsGcd-one_right n
 
@@ -64,7 +61,7 @@ digits_spelled negative digits numeral short = record {
   fraction = record {
     den_above_zero = lit< tt;
     den_within = omega arith;
-    num_within = within_signed negative (digits_value 10 digits) (omega arith);
+    num_within = grind arith;
     lowest = lowest_signed negative (digits_value 10 digits);
   };
   value = refl;

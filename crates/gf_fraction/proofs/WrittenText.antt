@@ -1,5 +1,5 @@
 -- The text of a fraction, and how many digits its parts have.
-use Rattle.std.proofs.Common.{◌≡◌, ℕ, ℤ, pos, ◌+◌, ◌/◌, ◌^◌, ◌≤◌, ◌<◌, Bool}
+use Rattle.std.proofs.Common.{◌≡◌, ℕ, ℤ, pos, ◌+◌, ◌/◌, ◌^◌, ◌≤◌, ◌<◌}
 use Rattle.std.proofs.Common.{List, [], ◌∷◌, ◌++◌, ◌∙◌, length, take, drop, arith}
 use Rattle.std.proofs.Common.{refl, ap, append-nil, append_assoc, length-append}
 use Rattle.std.specs.Prelude.{◌==◌, codes, decimal, unsigned_abs, if◌then◌else◌}
@@ -15,14 +15,10 @@ use Rattle.gf_fraction.specs.NumberText.{number_text}
 abbrev pub under_text : ℕ → List ℕ
 under_text d = if d == 1 then [] else codes "/" ++ decimal d
 
-part : (b : Bool) (n d : List ℕ)
-    → n ++ (if b then [] else codes "/" ++ d) ≡ (if b then n else n ++ codes "/" ++ d)
-part b n d = grind (arith, append-nil, append_assoc)
-
 pub number_parts : (z : ℤ) (d : ℕ)
     → signed_decimal z ++ under_text d ≡ number_text (record { num = z; den = d })
 unfolding number_text
-number_parts z d = part (d == 1) (signed_decimal z) (decimal d)
+number_parts z d = grind (arith, append-nil, append_assoc)
 
 -- digits are written after what is kept
 pub digits_from : (old new number rest : List ℕ) (start : ℕ)
@@ -56,7 +52,7 @@ pub length_three : (n : ℕ) → 100 ≤ n → n < 1000 → length (decimal n) �
 length_three n lo hi = grind (arith, longer, length_two)
 
 pub length_four : (n : ℕ) → 1000 ≤ n → n < 10000 → length (decimal n) ≡ 4
-length_four n lo hi = grind (arith, longer, length_three)
+length_four n lo hi = grind (arith, longer, length_one)
 
 pub four_longer : (n : ℕ) → 10000 ≤ n → n < 2 ^ 64
     → length (decimal n) ≡ length (decimal (n / 10000)) + 4

@@ -4,7 +4,6 @@ use Rattle.std.specs.Int.{w32}
 use Rattle.std.proofs.lemmas.Int.{ints}
 use Rattle.std.proofs.lemmas.Result.{MatchResult-weaker}
 use Rattle.gf_fraction.proofs.PowersOfTen.{IsScalable, power_of_ten-above}
-use Rattle.gf_fraction.proofs.PowersOfTen.{value_from_scaled, fault_from_scaled}
 use Rattle.gf_fraction.proofs.read.decimal.Goals as goal
 
 pub returns-then-digits-gt-LARGEST : goal.returns-then-digits-gt-LARGEST
@@ -26,5 +25,5 @@ returns c =
       power_is = omega (arith, ints);
     } in
     MatchResult-weaker c.scaled.result c.scaled.ensures
-    (λ f scaled. value_from_scaled _ _ _ _ _ f h scaled)
-    (λ fault over. fault_from_scaled _ _ _ _ fault h over.0 over.1)
+    (λ f scaled. (grind (arith, power_of_ten-above)))
+    (λ fault over. (grind arith))

@@ -1,7 +1,8 @@
+use Rattle.gf_fraction.proofs.LowestTerms.{value_from}
 use Rattle.std.proofs.Common.{arith}
 use Rattle.std.proofs.lemmas.Int.{ints}
 use Rattle.gf_fraction.proofs.LowestTerms.{mul_pos_left}
-use Rattle.gf_fraction.proofs.PowersOfTen.{pow_above_zero, scaled_from_lowest}
+use Rattle.gf_fraction.proofs.PowersOfTen.{pow_above_zero}
 use Rattle.gf_fraction.proofs.read.scaled.Goals as goal
 
 pub of_words-requires-clause-den_above_zero : goal.of_words-requires-clause-den_above_zero
@@ -10,10 +11,7 @@ of_words-requires-clause-den_above_zero c = grind (arith, mul_pos_left, pow_abov
 pub returns-in-Ok-try_from : goal.returns-in-Ok-try_from
 returns-in-Ok-try_from c =
     let w = c.lowest_decimal-num in
-    scaled_from_lowest c.args.negative c.args.digits c.in-Ok-try_from.word w.result.0 w.result.1
-    c.unsigned_abs-places.result c.args.power c.of_words.result
-    (omega (arith, ints)) (omega (arith, ints)) (omega (arith, c.in-Ok-try_from.ensures))
-    c.requires.digits_within w.ensures c.of_words.ensures.fraction c.of_words.ensures.value
+    (grind (arith, value_from, ints))
 
 pub returns-in_default : goal.returns-in_default
 returns-in_default c = grind (arith, ints)

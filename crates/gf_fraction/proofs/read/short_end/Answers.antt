@@ -1,7 +1,6 @@
 use Rattle.std.proofs.Common.{◌≡◌, get_or, arith, refl}
 use Rattle.gf_fraction.proofs.ShortNumbers.{first_and_more, decimal_completes, decimal_left}
 use Rattle.gf_fraction.proofs.ShortNumbers.{ratio_completes, ratio_left, whole_completes}
-use Rattle.gf_fraction.proofs.ShortNumbers.{no_byte, other_byte}
 use Rattle.gf_fraction.proofs.read.short_end.Goals as goal
 use Rattle.gf_fraction.proofs.read.short_end.Goals.{in_default-via-then-text-lt1}
 use Rattle.gf_fraction.proofs.read.short_end.Goals.{in_default-via-else-text-lt1+in_default-1}
@@ -37,4 +36,4 @@ returns-else-places-gt-WORD_PLACES c =
     c.lowest_decimal-num.ensures
 
 pub returns-in_default : goal.returns-in_default
-returns-in_default c = grind (arith, no_byte, other_byte, whole_completes)
+returns-in_default c = grind (arith, whole_completes)

@@ -4,8 +4,8 @@ use Rattle.std.proofs.lemmas.Int.{to_z-of_z, fits_signed_from_abs}
 use Rattle.std.proofs.lemmas.Result.{MatchResult-from_err}
 use Rattle.std.proofs.Math.Nat.{pos_of_dvd_of_pos}
 use Rattle.gf_fraction.specs.Sum.{SumFits}
-use Rattle.gf_fraction.proofs.FractionFields.{IsFraction-seen, num_seen, den_seen}
-use Rattle.gf_fraction.proofs.Sums.{Adding, Adding-equal, equal_parts, equal_overflows, equal_value}
+use Rattle.gf_fraction.proofs.FractionFields.{IsFraction-seen, den_seen}
+use Rattle.gf_fraction.proofs.Sums.{Adding, Adding-equal, equal_parts, equal_value}
 use Rattle.gf_fraction.proofs.Sums.{sum_fits, sum_overflows, sum_value, sum_common, sum_den_above}
 use Rattle.gf_fraction.proofs.fraction.Fraction.add.Goals as goal
 use Rattle.gf_fraction.proofs.fraction.Fraction.add.Goals.{After-total, After-quotient-by_right}
@@ -19,7 +19,7 @@ equal c =
     Adding-equal c.args.self c.args.o _ _ _ _
     (IsFraction-seen _ _ c.self.invariant c.self.view_is)
     (IsFraction-seen _ _ c.o.invariant c.o.view_is)
-    (num_seen _ _ c.self.invariant c.self.view_is) (num_seen _ _ c.o.invariant c.o.view_is)
+    (grind arith) (grind arith)
     (den_seen _ _ c.self.view_is) (den_seen _ _ c.o.view_is) c.if-self-o.true
 
 pub returns-in_err-num-clause-overflow : goal.returns-in_err-num-clause-overflow
@@ -27,7 +27,7 @@ returns-in_err-num-clause-overflow c =
     let e = equal (goal.at.returns-in_err-num-clause-overflow c).After-total in
     MatchResult-from_err c.from_residual.result (λ _. SumFits c.args.self c.args.o)
     (λ _. ¬ (SumFits c.args.self c.args.o)) (search rules)
-    (λ _. sum_overflows _ _ _ _ _ _ _ _ _ e (equal_overflows _ _ _ c.in_err-num.ensures))
+    (λ _. sum_overflows _ _ _ _ _ _ _ _ _ e (grind arith))
 
 pub returns-then-self-o : goal.returns-then-self-o
 returns-then-self-o c =
@@ -74,7 +74,7 @@ reduced-requires-2-clause-common c =
     (num_back (goal.at.reduced-requires-2-clause-common c).In_ok-num-2 ∙ is.1) is.2
 
 pub returns : goal.returns
-returns c = grind (arith, adding, num_back, sum_value, sum_fits)
+returns c = grind (arith, adding, sum_value, sum_fits)
 
 pub returns-in_err-num-2-clause-overflow : goal.returns-in_err-num-2-clause-overflow
 returns-in_err-num-2-clause-overflow c =

@@ -1,5 +1,7 @@
-use Rattle.gf_fraction.proofs.ShortNumbers.{reads_on}
+use Rattle.std.proofs.Common.{arith}
+use Rattle.gf_fraction.proofs.ShortNumbers.{left}
+use Rattle.gf_fraction.proofs.ShortNumbers.{read_on}
 use Rattle.gf_fraction.proofs.fraction.Fraction.after_digits.Goals as goal
 
 pub returns-clause-end : goal.returns-clause-end
-returns-clause-end c = reads_on c.args.num c.args.text.now c.read_on.result c.read_on.ensures.end
+returns-clause-end c = grind (arith, left, read_on)

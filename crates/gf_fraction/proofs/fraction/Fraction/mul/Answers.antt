@@ -42,7 +42,7 @@ invariant_of-result c = fraction c
 pub returns : goal.returns
 returns c =
     let h = multiplying (goal.at.returns c).After-lowest-right in
-    let value = product_value _ _ _ _ _ _ _ _ _ _ h _ _ (num_is c) c.in_ok-den.ensures.0 in
+    let value = product_value _ _ _ _ _ _ _ _ _ _ h _ _ (grind arith) c.in_ok-den.ensures.0 in
     record {
       product = (fraction c, value);
       overflow = record {
