@@ -1,6 +1,6 @@
 -- The span of a token is the slice of the bytes that spells it.
 use Rattle.std.proofs.Common.{◌≡◌, ℕ, List, [], ◌∷◌, ◌++◌, length}
-use Rattle.std.proofs.Common.{refl, sym, ap, subst, ◌∙◌, append_assoc, arith}
+use Rattle.std.proofs.Common.{refl, subst, append_assoc, arith}
 use Rattle.std.proofs.Math.Seq.{take-append_seam, drop-append_seam}
 use Rattle.std.proofs.lemmas.List.{length-append}
 use Rattle.gf_token.specs.Token.{Token, Lexeme, spelling}
@@ -31,9 +31,7 @@ stands (x ∷ before) after l front bytes at e h =
     let further =
     goes_on_some x.token before after l (Spells x.end first.rest (before ++ l ∷ after)) h.1 in
     let next : x.end ≡ length (front ++ mid) = grind (arith, length-append) in
-    let whole : (front ++ mid) ++ first.rest ≡ front ++ bytes =
-    append_assoc front mid first.rest ∙ ap (λ y. front ++ y)
-    (append_assoc first.gap (spelling x.token) first.rest ∙ sym first.parts) in
+    let whole : (front ++ mid) ++ first.rest ≡ front ++ bytes = grind (arith, append_assoc) in
     subst (λ (y : List ℕ). StandsIn y l) whole
     (stands before after l (front ++ mid) first.rest x.end next further)
 

@@ -154,9 +154,6 @@ data Class (b : ℕ) : Type 0 where
   quote : b ≡ 34 → Class b
   bare : is_bare b ≡ true → Class b
 
-class_of : (b : ℕ) → Class b
-class_of b = grind arith
-
 -- a gap with a byte of whitespace before it
 pub wider : (ls : List Lexeme) (b at : ℕ) (bs : List ℕ) → is_space b ≡ true → Spells (at + 1) bs ls
     → Spells at (b ∷ bs) ls
@@ -267,7 +264,7 @@ bare_step b at start text bs false s ih =
       stands = s;
       then =
           subst (λ (i : ℕ). Spells i (b ∷ bs) (from_gap b at bs)) e
-          (gap_step b at bs (class_of b) ih);
+          (gap_step b at bs (grind arith) ih);
     }
 
 -- with one byte before that closes no text, no label is closed either

@@ -80,9 +80,7 @@ quoted bytes label rest start is =
     sym (at_drop_more (drop 1) bytes start 0 (omega (arith, within))) ∙ ap (drop 1) is in
     record {
       within = within;
-      opens =
-          ap (λ (i : ℕ). get_or bytes i 0) (sym none) ∙ sym (get_or-drop start bytes 0 0)
-          ∙ ap (λ (x : List ℕ). get_or x 0 0) is;
+      opens = grind (arith, get_or, get_or-drop);
       same =
           ap (λ (n : ℕ). take n (drop (start + 1) bytes)) size
           ∙ ap (take (length label)) after ∙ take-append_seam label (34 ∷ rest);

@@ -1,4 +1,4 @@
-use Rattle.std.proofs.Common.{◌+◌, ◌*◌, ◌<◌, ◌^◌, length, arith}
+use Rattle.std.proofs.Common.{arith}
 use Rattle.std.proofs.Math.Nat.{pow-le-pow_right}
 use Rattle.std.proofs.lemmas.Bool.{cases_lt}
 use Rattle.std.proofs.lemmas.Grind.{pow_more}
@@ -11,14 +11,10 @@ returns-in_default c = grind (arith, digit_at)
 
 pub overflow_mul-value : goal.overflow_mul-value
 overflow_mul-value c =
-    let l = c.loop-byte in
-    let digits = length c.args.text.now in
-    let room : l.value * 10 + 9 < 2 ^ 64 = grind (arith, cases_lt, pow-le-pow_right) in
-    omega (arith, room)
+    grind (arith, cases_lt, pow-le-pow_right)
 
 pub overflow_add-value : goal.overflow_add-value
 overflow_add-value c =
-    let l = c.loop-byte in
     grind (arith, cases_lt, pow-le-pow_right)
 
 pub loop-byte-preserved : goal.loop-byte-preserved

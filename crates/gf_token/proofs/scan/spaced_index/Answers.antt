@@ -7,5 +7,4 @@ use Rattle.std.proofs.Common.{arith}
 
 pub returns : Rattle.gf_token.proofs.scan.spaced_index.Goals.returns
 returns c =
-    let d = c.digits_before-end in
-    (grind (arith, gap_more, length_range, finds_bare, digits_spelled, scanned))
+    grind (arith, gap_more, length_range, finds_bare, digits_spelled, scanned)
