@@ -1,20 +1,19 @@
 -- The answer for a text, from what the scan of it finds: capped numbers keep its value and its
 -- fault.
-use Rattle.std.proofs.Common.{◌≡◌, ℕ, ◌<◌, Bool, List, []}
-use Rattle.std.proofs.Common.{◌∷◌, ◌++◌, length, Some, None, arith, refl, ap, ◌∙◌}
+use Rattle.std.proofs.Common.{length, arith, Bool, List, None, Some, refl, ◌++◌, ◌<◌, ◌∙◌, ◌∷◌, ◌≡◌}
+use Rattle.std.proofs.Common.{[], ap, ℕ}
 use Rattle.gf_fraction.specs.Ratio.{Ratio}
-use Rattle.gf_fraction.specs.NumberSpelling.{Reading, IsPlain, HasShape, SpellsReading}
-use Rattle.gf_fraction.specs.NumberSpelling.{IsNumber, IsBounded, den_of}
+use Rattle.gf_fraction.specs.NumberSpelling.{SpellsReading, IsBounded, HasShape, IsNumber, IsPlain}
+use Rattle.gf_fraction.specs.NumberSpelling.{Reading, den_of}
 use Rattle.gf_fraction.specs.NoNumber.{HasNumberFault}
-use Rattle.gf_fraction.specs.NumberSpelling.IsPlain.{whole, pointed}
-use Rattle.gf_fraction.specs.inner.NumberScan.{is_minus, after_sign, scan}
-use Rattle.gf_fraction.specs.inner.NumberScan.{reading_of, IsValueOf, HasReadingFault}
+use Rattle.gf_fraction.specs.NumberSpelling.IsPlain.{pointed, whole}
+use Rattle.gf_fraction.specs.inner.NumberScan.{HasReadingFault, after_sign, reading_of, IsValueOf}
+use Rattle.gf_fraction.specs.inner.NumberScan.{is_minus, scan}
 use Rattle.gf_fraction.specs.declared.read.Spelling.{Spelling}
 use Rattle.gf_fraction.specs.declared.fraction.NumberFault.{NumberFault}
 use Rattle.gf_fraction.proofs.PowersOfTen.{power_of_ten-above}
-use Rattle.gf_fraction.proofs.SpelledIsFound.{Unsigned}
-use Rattle.gf_fraction.proofs.SpelledIsFound.{digit_unsigned, ascii_from_digit}
-use Rattle.gf_fraction.proofs.SpelledIsFound.{sign_split, scan_shape, capped_exponent, held}
+use Rattle.gf_fraction.proofs.SpelledIsFound.{ascii_from_digit, capped_exponent, digit_unsigned}
+use Rattle.gf_fraction.proofs.SpelledIsFound.{scan_shape, sign_split, Unsigned, held}
 use Rattle.gf_fraction.proofs.FoundIsSpelled.{FoundNumber}
 
 -- no shape begins with a sign

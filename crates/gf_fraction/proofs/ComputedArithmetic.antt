@@ -1,23 +1,22 @@
 -- Computed sums and products are those of the relations.
-use Rattle.std.proofs.Common.{◌≡◌, ℕ, ℤ, pos, suc, zero, ◌*◌, ◌/◌, ◌%◌, ◌^◌, ◌<◌, rules}
-use Rattle.std.proofs.Common.{Bool, true, false, Option, Some, None, MatchOption}
-use Rattle.std.proofs.Common.{arith, refl, sym, subst, ◌⊎◌}
-use Rattle.std.specs.Prelude.{◌&&◌, ◌*ℤ◌, ◌+ℤ◌, unsigned_abs, int_lt, nat_lt, if◌then◌else◌}
+use Rattle.std.proofs.Common.{MatchOption, Option, arith, false, rules, subst, Bool, None, Some, ℕ}
+use Rattle.std.proofs.Common.{refl, true, zero, pos, suc, sym, ◌%◌, ◌*◌, ◌/◌, ◌<◌, ◌^◌, ◌≡◌, ◌⊎◌, ℤ}
+use Rattle.std.specs.Prelude.{if◌then◌else◌, unsigned_abs, int_lt, nat_lt, ◌&&◌, ◌*ℤ◌, ◌+ℤ◌}
 use Rattle.std.specs.Int.{IsGcd}
-use Rattle.std.proofs.lemmas.Bool.{ltb-true, ltb-false, lt-ltb, and_from}
+use Rattle.std.proofs.lemmas.Bool.{ltb-false, and_from, ltb-true, lt-ltb}
 use Rattle.std.proofs.lemmas.Nat.Gcd.{IsGcd-from_zero, IsGcd-from_mod}
 use Rattle.std.proofs.Math.Nat.{mod-lt}
-use Rattle.gf_fraction.specs.Ratio.{Ratio, IsFraction, IsWithin, HasValue}
-use Rattle.gf_fraction.specs.Sum.{IsSum, SumFits}
-use Rattle.gf_fraction.specs.Product.{IsProduct, ProductFits}
+use Rattle.gf_fraction.specs.Ratio.{IsFraction, HasValue, IsWithin, Ratio}
+use Rattle.gf_fraction.specs.Sum.{SumFits, IsSum}
+use Rattle.gf_fraction.specs.Product.{ProductFits, IsProduct}
 use Rattle.gf_fraction.specs.inner.Steps.{IsLowest, PartsFit}
-use Rattle.gf_fraction.specs.inner.Computed.{gcd_within, lowest_of, is_within, sum_of, product_of}
+use Rattle.gf_fraction.specs.inner.Computed.{gcd_within, product_of, is_within, lowest_of, sum_of}
 use Rattle.gf_fraction.proofs.Divisors.{HoldsCommon-self, IsLowest-div}
 use Rattle.gf_fraction.proofs.LowestTerms.{IsLowestRatio-fraction, reduced_fraction, IsLowestRatio}
-use Rattle.gf_fraction.proofs.LowestTerms.{reduced_value, one_fraction, mul_pos_left, one_lowest}
+use Rattle.gf_fraction.proofs.LowestTerms.{reduced_value, mul_pos_left, one_fraction, one_lowest}
 use Rattle.gf_fraction.proofs.Integers.{unsigned_abs-signed}
 use Rattle.gf_fraction.proofs.Products.{mul_above}
-use Rattle.gf_fraction.proofs.Sums.{Adding, sum_fits, sum_overflows, sum_value, sum_den_above}
+use Rattle.gf_fraction.proofs.Sums.{sum_den_above, sum_overflows, sum_value, sum_fits, Adding}
 
 IsGcd-within : (n a b : ℕ) → b < n → IsGcd a b (gcd_within n a b)
 unfolding gcd_within

@@ -1,17 +1,16 @@
 -- Ratios in lowest terms: when they are fractions, which value they have, and that no other ratio
 -- has it.
-use Rattle.std.proofs.Common.{◌≡◌, ℕ, ℤ, Bool, pos, ◌*◌, ◌^◌, ◌<◌, arith, ap, refl, sym}
-use Rattle.std.proofs.Common.{◌∙◌, subst}
-use Rattle.std.specs.Prelude.{◌*ℤ◌, unsigned_abs, int_lt}
+use Rattle.std.proofs.Common.{arith, subst, Bool, refl, pos, sym, ◌*◌, ◌<◌, ◌^◌, ◌∙◌, ◌≡◌, ap, ℕ, ℤ}
+use Rattle.std.specs.Prelude.{unsigned_abs, int_lt, ◌*ℤ◌}
 use Rattle.std.specs.Int.{IsGcd, ◌∣◌}
 use Rattle.std.proofs.lemmas.Int.{unsigned_abs-mul}
 use Rattle.std.proofs.lemmas.Nat.Gcd.{dvd_antisymm, IsGcd-swap}
-use Rattle.std.proofs.Math.Nat.{dvd-mul_left, le-mul_of_pos_right}
-use Rattle.gf_fraction.specs.Ratio.{Ratio, IsFraction, IsWithin, HasValue, signed}
+use Rattle.std.proofs.Math.Nat.{le-mul_of_pos_right, dvd-mul_left}
+use Rattle.gf_fraction.specs.Ratio.{IsFraction, HasValue, IsWithin, signed, Ratio}
 use Rattle.gf_fraction.specs.inner.Steps.{IsLowest}
 use Rattle.gf_fraction.proofs.Divisors.{dvd_of_dvd-mul}
-use Rattle.gf_fraction.proofs.Integers.{unsigned_abs-signed, signed-*}
-use Rattle.gf_fraction.proofs.Integers.{*ℤ_right_comm, *ℤ-cancel_right}
+use Rattle.gf_fraction.proofs.Integers.{unsigned_abs-signed, *ℤ-cancel_right, *ℤ_right_comm}
+use Rattle.gf_fraction.proofs.Integers.{signed-*}
 
 -- a product above zero has parts above zero
 pub mul_pos_left : (p q n : ℕ) → p * q ≡ n → 0 < n → 0 < p

@@ -1,13 +1,11 @@
 -- Laws of rationals of any size, up to equality by cross multiplication.
-use Rattle.std.proofs.Common.{◌≡◌, ℕ, ℤ, pos, ◌*◌, ◌<◌, refl, ap, sym}
-use Rattle.std.proofs.Common.{◌∙◌, arith}
-use Rattle.std.specs.Prelude.{◌+ℤ◌, ◌*ℤ◌}
-use Rattle.std.proofs.Math.IntN.{*ℤ_comm, +ℤ_assoc}
+use Rattle.std.proofs.Common.{arith, refl, pos, sym, ◌*◌, ◌<◌, ◌∙◌, ◌≡◌, ap, ℕ, ℤ}
+use Rattle.std.specs.Prelude.{◌*ℤ◌, ◌+ℤ◌}
+use Rattle.std.proofs.Math.IntN.{+ℤ_assoc, *ℤ_comm}
 use Rattle.gf_fraction.specs.Ratio.{Ratio}
-use Rattle.gf_fraction.proofs.Integers.{*ℤ_assoc, *ℤ_right_comm, add-*ℤ, *ℤ-cancel_right}
+use Rattle.gf_fraction.proofs.Integers.{*ℤ-cancel_right, *ℤ_right_comm, *ℤ_assoc, add-*ℤ}
 use Rattle.gf_fraction.proofs.Products.{mul_above}
-use Rattle.gf_fraction.specs.Rational.{IsEqual, zero_ratio}
-use Rattle.gf_fraction.specs.Rational.{plus, times}
+use Rattle.gf_fraction.specs.Rational.{zero_ratio, IsEqual, times, plus}
 
 -- ---- denominators above zero
 
@@ -70,7 +68,7 @@ pub times_both : (x u y v : Ratio) → IsEqual x u → IsEqual y v → IsEqual (
 times_both x u y v h k = record {
   left = mul_above x.den y.den h.left k.left;
   right = mul_above u.den v.den h.right k.right;
-  crosswise = (grind (arith, *ℤ_assoc, *ℤ_right_comm))
+  crosswise = grind (arith, *ℤ_assoc, *ℤ_right_comm)
       ∙ (λ i. h.crosswise i *ℤ k.crosswise i)
       ∙ (grind (arith, *ℤ_assoc, *ℤ_right_comm));
 }

@@ -1,29 +1,28 @@
 -- A text has one answer, and what is written for a fraction reads back to it.
-use Rattle.std.proofs.Common.{◌≡◌, ℕ, ℤ, pos, negsuc, suc, ◌^◌, ◌<◌, ◌≤◌, Bool, true, false, List}
-use Rattle.std.proofs.Common.{[], ◌∷◌, ◌++◌, Result, arith, refl, ap, sym, ◌∙◌, subst, append_assoc}
-use Rattle.std.specs.Prelude.{◌*ℤ◌, unsigned_abs, decimal as digits}
+use Rattle.std.proofs.Common.{append_assoc, Result, negsuc, arith, false, subst, Bool, List, refl}
+use Rattle.std.proofs.Common.{true, ◌++◌, pos, suc, sym, ◌<◌, ◌^◌, ◌∙◌, ◌∷◌, ◌≡◌, ◌≤◌, [], ap, ℕ, ℤ}
+use Rattle.std.specs.Prelude.{decimal as digits, unsigned_abs, ◌*ℤ◌}
 use Rattle.std.specs.Fmt.{signed_decimal}
-use Rattle.std.specs.Str.Parse.{IsNumeral, digits_value}
+use Rattle.std.specs.Str.Parse.{digits_value, IsNumeral}
 use Rattle.std.proofs.lemmas.Int.{ints}
 use Rattle.std.proofs.lemmas.Bool.{eqb-true}
 use Rattle.std.proofs.lemmas.Fmt.{decimal_is_IsNumeral_wide}
-use Rattle.gf_fraction.specs.Ratio.{Ratio, IsFraction, HasValue, signed}
-use Rattle.gf_fraction.specs.NumberSpelling.{Reading, IsSign, SpellsReading, IsNumber}
-use Rattle.gf_fraction.specs.NumberSpelling.{IsBounded, size_of, den_of}
+use Rattle.gf_fraction.specs.Ratio.{IsFraction, HasValue, signed, Ratio}
+use Rattle.gf_fraction.specs.NumberSpelling.{SpellsReading, IsBounded, IsNumber, Reading, size_of}
+use Rattle.gf_fraction.specs.NumberSpelling.{IsSign, den_of}
 use Rattle.gf_fraction.specs.NoNumber.{HasNumberFault, Reads}
-use Rattle.gf_fraction.specs.NumberSpelling.Reading.{decimal, rational}
+use Rattle.gf_fraction.specs.NumberSpelling.Reading.{rational, decimal}
 use Rattle.gf_fraction.specs.NumberSpelling.IsSign.{absent, minus}
 use Rattle.gf_fraction.specs.NumberSpelling.IsPlain.{whole}
-use Rattle.gf_fraction.specs.NumberSpelling.HasShape.{plain, fraction}
+use Rattle.gf_fraction.specs.NumberSpelling.HasShape.{fraction, plain}
 use Rattle.gf_fraction.specs.NumberText.{number_text}
 use Rattle.gf_fraction.specs.inner.NumberScan.{reading_of}
 use Rattle.gf_fraction.specs.declared.fraction.NumberFault.{NumberFault}
-use Rattle.gf_fraction.specs.declared.fraction.NumberFault.TheVariants.{NotANumber, ZeroDenominator}
+use Rattle.gf_fraction.specs.declared.fraction.NumberFault.TheVariants.{ZeroDenominator, NotANumber}
 use Rattle.gf_fraction.specs.declared.fraction.NumberFault.TheVariants.{TooLarge}
 use Rattle.gf_fraction.proofs.LowestTerms.{one_fraction}
 use Rattle.gf_fraction.proofs.SpelledIsFound.{held}
-use Rattle.gf_fraction.proofs.AnswersFromScans.{scan_spelled, bounded_kept, zero_held}
-use Rattle.gf_fraction.proofs.AnswersFromScans.{zero_kept}
+use Rattle.gf_fraction.proofs.AnswersFromScans.{bounded_kept, scan_spelled, zero_held, zero_kept}
 
 -- two readings of one text agree but for what is too large
 module _ (text : List ℕ) (m n : Bool) (x y : Reading) (hx : SpellsReading text m x)
@@ -50,8 +49,7 @@ same_number text r s a b =
     let sign = same_sign text a.negative b.negative a.reading b.reading a.spelled b.spelled in
     let F : (Bool × Reading) → Type 0 = λ t. HasValue s (signed t.0 (size_of t.1)) (den_of t.1) in
     one_fraction r s (signed a.negative (size_of a.reading)) (den_of a.reading) a.fraction
-    b.fraction a.den_above_zero a.value
-    (subst F (λ i. (sym sign i, sym e i)) b.value)
+    b.fraction a.den_above_zero a.value (subst F (λ i. (sym sign i, sym e i)) b.value)
 
 not_both : (text : List ℕ) (r : Ratio) (fault : NumberFault)
     → IsNumber text r → HasNumberFault text fault → ⊥

@@ -167,9 +167,8 @@ left n _ (many_places after rest run many) =
 
 pub completed_number : (sign digits text rest : List ℕ) (negative : Bool) (n p q len : ℕ)
     (r : Ratio) → IsSign sign negative → IsNumeral 10 digits → digits_value 10 digits ≡ n
-    → Completes n text p q rest → len ≡ length text - length rest
-    → IsFraction r → r ≡ record { num = signed negative p; den = q }
-    → IsNumber (sign ++ digits ++ take len text) r
+    → Completes n text p q rest → len ≡ length text - length rest → IsFraction r
+    → r ≡ record { num = signed negative p; den = q } → IsNumber (sign ++ digits ++ take len text) r
 completed_number sign digits text rest negative n p q len r is_sign numeral value c count is_fraction
     is =
     grind (

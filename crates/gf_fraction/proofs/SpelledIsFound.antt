@@ -71,10 +71,6 @@ Unsigned (c ∷ cs) = ((c == 43) ≡ false) × ((c == 45) ≡ false)
 pub digit_unsigned : (c : ℕ) → is_ascii_digit c ≡ true → ((c == 43) ≡ false) × ((c == 45) ≡ false)
 digit_unsigned c h = (grind (arith, nat_tests), grind (arith, nat_tests))
 
-Unsigned-append : (ds rest : List ℕ) → AllDigits 10 ds → Unsigned rest → Unsigned (ds ++ rest)
-Unsigned-append [] rest all h = h
-Unsigned-append (d ∷ ds) rest all h = digit_unsigned d (ascii_from_digit d all.0)
-
 pub Unsigned-digits : (ds : List ℕ) → AllDigits 10 ds → Unsigned ds
 Unsigned-digits ds all = grind arith
 

@@ -21,9 +21,8 @@ unfolding number_text
 number_parts z d = grind (arith, append-nil, append_assoc)
 
 -- digits are written after what is kept
-pub digits_from : (old new number rest : List ℕ) (start : ℕ)
-    → take start new ≡ take start old → drop start new ≡ number ++ rest
-    → take (start + length number) new ≡ take start old ++ number
+pub digits_from : (old new number rest : List ℕ) (start : ℕ) → take start new ≡ take start old
+    → drop start new ≡ number ++ rest → take (start + length number) new ≡ take start old ++ number
 digits_from old new number rest start before written =
     rw (take-add start (length number) new, before, written, take-append_seam number rest) refl
 

@@ -50,9 +50,8 @@ module _ {S C : Type 0} {step : S → Token → Result S Why} {finish : S → Re
       grind arith
 
   -- nor is one accepted where it stops
-  pub not_accepted : (before after : List Token) (s : S) (why : Why)
-      → walk step start before ≡ Ok s → StopsAt step finish s after why
-      → ¬ (IsAccepted IsFile before after)
+  pub not_accepted : (before after : List Token) (s : S) (why : Why) → walk step start before ≡ Ok s
+      → StopsAt step finish s after why → ¬ (IsAccepted IsFile before after)
   not_accepted before [] s why h e =
       search (rules, run_whole)
   not_accepted before (t ∷ after) s why h e = stops before (t ∷ []) s h (rw e refl)

@@ -1,16 +1,15 @@
 -- The reading of an index, as a function, is the index that a text is.
-use Rattle.std.proofs.Common.{◌≡◌, ℕ, ◌<◌, true}
-use Rattle.std.proofs.Common.{List, [], ◌∷◌, arith, refl, Option, Some, None}
+use Rattle.std.proofs.Common.{Option, arith, List, None, Some, refl, true, ◌<◌, ◌∷◌, ◌≡◌, [], ℕ}
 use Rattle.std.specs.List.{list_all}
 use Rattle.std.specs.Char.{is_ascii_digit}
 use Rattle.std.specs.Str.Parse.{AllDigits}
 use Rattle.std.proofs.lemmas.Bool.{and_parts}
 use Rattle.std.proofs.lemmas.Bool.Decides.{nat_tests}
 use Rattle.gf_fraction.proofs.Offered.{ascii_from_digit, digit_from_ascii}
-use Rattle.gf_token.specs.Index.{IsIndex, ReadsIndex}
+use Rattle.gf_token.specs.Index.{ReadsIndex, IsIndex}
 use Rattle.gf_token.specs.NoIndex.{IsNoIndex}
 use Rattle.gf_token.specs.declared.index.IndexFault.{IndexFault}
-use Rattle.gf_token.specs.inner.Indices.{index_of, count_of}
+use Rattle.gf_token.specs.inner.Indices.{count_of, index_of}
 
 all_digits : (ds : List ℕ) → list_all is_ascii_digit ds ≡ true → AllDigits 10 ds
 all_digits [] h = tt

@@ -64,8 +64,7 @@ finds_bare bytes start end bare order within ends =
 
 pub finds_number : (bytes : List ℕ) (start end : ℕ) (r : Ratio)
     → IsNumber (slice_range bytes start end) r → start ≤ end → end ≤ length bytes
-    → (end < length bytes → is_bare (get_or bytes end 0) ≡ false)
-    → FindsNumber bytes start end r
+    → (end < length bytes → is_bare (get_or bytes end 0) ≡ false) → FindsNumber bytes start end r
 finds_number bytes start end r number order within ends =
     grind (
       arith,

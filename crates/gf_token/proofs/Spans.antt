@@ -1,11 +1,10 @@
 -- The span of a token is the slice of the bytes that spells it.
-use Rattle.std.proofs.Common.{◌≡◌, ℕ, List, [], ◌∷◌, ◌++◌, length}
-use Rattle.std.proofs.Common.{refl, subst, append_assoc, arith}
-use Rattle.std.proofs.Math.Seq.{take-append_seam, drop-append_seam}
+use Rattle.std.proofs.Common.{append_assoc, length, arith, subst, List, refl, ◌++◌, ◌∷◌, ◌≡◌, [], ℕ}
+use Rattle.std.proofs.Math.Seq.{drop-append_seam, take-append_seam}
 use Rattle.std.proofs.lemmas.List.{length-append}
-use Rattle.gf_token.specs.Token.{Token, Lexeme, spelling}
+use Rattle.gf_token.specs.Token.{spelling, Lexeme, Token}
 use Rattle.gf_token.specs.Token.Token.{Broken}
-use Rattle.gf_token.specs.TokenSpelling.{GoesOn, BeginsWith, Spells}
+use Rattle.gf_token.specs.TokenSpelling.{BeginsWith, GoesOn, Spells}
 use Rattle.gf_token.specs.Slices.{StandsIn}
 
 -- a token that comes after the bytes `front`

@@ -1,20 +1,19 @@
 -- Each byte list spells exactly one list of tokens: those that are found in it byte by byte.
-use Rattle.std.proofs.lemmas.Bool.Decides.{nat_tests}
-use Rattle.std.proofs.Common.{◌≡◌, ℕ, suc, ◌+◌, Bool, true, false, ◌==◌, ◌&&◌, ◌||◌, cond, List, []}
-use Rattle.std.proofs.Common.{◌∷◌, ◌++◌, length, refl, sym, ap, subst, ◌∙◌, append_assoc, arith}
-use Rattle.std.proofs.Common.{inl, inr}
+use Rattle.std.proofs.lemmas.Bool.Decides.{Decides-eqb, nat_tests}
+use Rattle.std.proofs.Common.{append_assoc, length, arith, false, subst, Bool, List, cond, refl, []}
+use Rattle.std.proofs.Common.{true, ◌&&◌, ◌++◌, ◌==◌, ◌||◌, inl, inr, suc, sym, ◌+◌, ◌∙◌, ◌∷◌, ◌≡◌}
+use Rattle.std.proofs.Common.{ap, ℕ}
 use Rattle.std.specs.Prelude.{not}
 use Rattle.std.specs.List.{AllByRecursion}
 use Rattle.std.proofs.lemmas.Bool.{cases_Bool, and_parts}
-use Rattle.std.proofs.lemmas.Bool.Decides.{Decides-eqb}
-use Rattle.std.proofs.lemmas.List.{append-nil, length-append}
+use Rattle.std.proofs.lemmas.List.{length-append, append-nil}
 use Rattle.gf_token.specs.Byte.{is_space, is_bare}
 use Rattle.gf_token.specs.LabelSpelling.{is_spelling_after}
-use Rattle.gf_token.specs.Token.{Token, Lexeme, lexeme, spelling}
-use Rattle.gf_token.specs.Token.Token.{Opening, Closing, Comma, Text, Bare, Broken}
-use Rattle.gf_token.specs.TokenSpelling.{IsGap, IsSpelled, MayPrecede, GoesOn, Spells}
-use Rattle.gf_token.specs.inner.Lexing.{Mode, lex, single, begins}
-use Rattle.gf_token.specs.inner.Lexing.Mode.{Gap, InText, InBare}
+use Rattle.gf_token.specs.Token.{spelling, Lexeme, lexeme, Token}
+use Rattle.gf_token.specs.Token.Token.{Closing, Opening, Broken, Comma, Bare, Text}
+use Rattle.gf_token.specs.TokenSpelling.{MayPrecede, IsSpelled, GoesOn, Spells, IsGap}
+use Rattle.gf_token.specs.inner.Lexing.{begins, single, Mode, lex}
+use Rattle.gf_token.specs.inner.Lexing.Mode.{InBare, InText, Gap}
 
 abbrev pub AllBare : List ℕ → Type 0
 AllBare bytes = AllByRecursion (λ b. is_bare b ≡ true) bytes
@@ -34,8 +33,7 @@ gap_again (b ∷ gap) rest at h =
     grind (arith, nat_tests, gap_again gap rest (at + 1) h.1)
 
 bare_again : (bs acc rest : List ℕ) (start at : ℕ) → AllBare bs
-    → lex (InBare start acc) at (bs ++ rest)
-    ≡ lex (InBare start (acc ++ bs)) (at + length bs) rest
+    → lex (InBare start acc) at (bs ++ rest) ≡ lex (InBare start (acc ++ bs)) (at + length bs) rest
 unfolding lex
 bare_again [] acc rest start at h = grind (arith, append-nil)
 bare_again (b ∷ bs) acc rest start at h =
@@ -85,8 +83,7 @@ text_breaks (b ∷ bs) acc start at before h =
 
 -- a token, and what the bytes after it spell
 pub token_again : (t : Token) (at : ℕ) (rest : List ℕ) (others : List Lexeme) → IsSpelled t
-    → MayPrecede t rest
-    → GoesOn t others (lex Gap (at + length (spelling t)) rest ≡ others)
+    → MayPrecede t rest → GoesOn t others (lex Gap (at + length (spelling t)) rest ≡ others)
     → lex Gap at (spelling t ++ rest) ≡ lexeme at (at + length (spelling t)) t ∷ others
 unfolding lex
 token_again t at rest others h s k =
@@ -248,8 +245,7 @@ gap_step b at bs (quote s) ih = subst (λ (x : ℕ). Goal at x bs) (sym s) (at_q
 gap_step b at bs (bare s) ih = grind (arith, nat_tests, bare_parts)
 
 bare_step : (b at start : ℕ) (text bs : List ℕ) (c : Bool) → is_bare b ≡ c → Known (at + 1) bs
-    → BareEnds start text at (b ∷ bs)
-    (cond c [] (lexeme start at (Bare text) ∷ single at b)
+    → BareEnds start text at (b ∷ bs) (cond c [] (lexeme start at (Bare text) ∷ single at b)
     ++ lex (cond c (InBare start (text ++ b ∷ [])) (begins at b)) (at + 1) bs)
 bare_step b at start text bs true s ih = grind (arith, append_assoc)
 bare_step b at start text bs false s ih =
@@ -289,8 +285,7 @@ text_on b at start before text bs ls s (never none first) =
 
 text_step : (b at start before : ℕ) (text bs : List ℕ) (c : Bool)
     → ((b == 34) && not (before == 92)) ≡ c → Known (at + 1) bs
-    → TextEnds start before text at (b ∷ bs)
-    (cond c (lexeme start (at + 1) (Text text) ∷ []) []
+    → TextEnds start before text at (b ∷ bs) (cond c (lexeme start (at + 1) (Text text) ∷ []) []
     ++ lex (cond c Gap (InText start b (text ++ b ∷ []))) (at + 1) bs)
 text_step b at start before text bs true s ih =
     let q = and_parts (b == 34) (not (before == 92)) s in

@@ -1,8 +1,7 @@
 -- The texts of numbers and of indices are the bytes of bare tokens, and the texts of indices are
 -- read as indices.
-use Rattle.std.proofs.Common.{◌≡◌, ℕ, ℤ, ◌^◌, ◌<◌, ◌≤◌, true, List, [], ◌∷◌, ◌++◌}
-use Rattle.std.proofs.Common.{refl, arith}
-use Rattle.std.specs.Prelude.{codes, decimal, Bool}
+use Rattle.std.proofs.Common.{arith, List, refl, true, ◌++◌, ◌<◌, ◌^◌, ◌∷◌, ◌≡◌, ◌≤◌, [], ℕ, ℤ}
+use Rattle.std.specs.Prelude.{decimal, codes, Bool}
 use Rattle.std.specs.Str.Parse.{AllDigits, IsNumeral}
 use Rattle.std.proofs.lemmas.Bool.Decides.{nat_tests}
 use Rattle.std.proofs.lemmas.Fmt.{decimal_is_IsNumeral}
@@ -11,14 +10,14 @@ use Rattle.gf_token.specs.Token.Token.{Bare}
 use Rattle.gf_token.specs.TokenSpelling.{IsSpelled}
 use Rattle.gf_token.specs.Index.{IsIndex}
 use Rattle.gf_token.proofs.Spelled.{AllBare}
-use Rattle.gf_fraction.specs.Ratio.{Ratio, IsFraction}
+use Rattle.gf_fraction.specs.Ratio.{IsFraction, Ratio}
 use Rattle.gf_fraction.specs.NumberText.{number_text}
-use Rattle.gf_fraction.specs.NumberSpelling.{Reading, IsSign, IsPlain, IsExponent, HasShape}
-use Rattle.gf_fraction.specs.NumberSpelling.{IsNumber}
-use Rattle.gf_fraction.specs.NumberSpelling.IsPlain.{whole, pointed}
-use Rattle.gf_fraction.specs.NumberSpelling.HasShape.{plain, raised, fraction}
+use Rattle.gf_fraction.specs.NumberSpelling.{IsExponent, HasShape, IsNumber, IsPlain, Reading}
+use Rattle.gf_fraction.specs.NumberSpelling.{IsSign}
+use Rattle.gf_fraction.specs.NumberSpelling.IsPlain.{pointed, whole}
+use Rattle.gf_fraction.specs.NumberSpelling.HasShape.{fraction, raised, plain}
 use Rattle.gf_fraction.specs.Offered.{number_of}
-use Rattle.gf_fraction.proofs.Offered.{all_both, all_parts, number_again, written_is_read}
+use Rattle.gf_fraction.proofs.Offered.{written_is_read, number_again, all_parts, all_both}
 
 bare_digits : (bytes : List ℕ) → AllDigits 10 bytes → AllBare bytes
 bare_digits [] h = tt

@@ -1,19 +1,18 @@
 -- What the loops over the bytes find, one byte at a time.
-use Rattle.std.proofs.Common.{◌≡◌, ℕ, ◌+◌, ◌-◌, ◌<◌, ◌≤◌, true, false, ◌==◌, ◌&&◌, List, [], ◌∷◌}
-use Rattle.std.proofs.Common.{◌++◌, length, get_or, take, drop, refl, ap, ◌∙◌, arith}
-use Rattle.std.proofs.Common.{append_assoc}
+use Rattle.std.proofs.Common.{append_assoc, get_or, length, arith, false, List, drop, refl, take, ℕ}
+use Rattle.std.proofs.Common.{true, ◌&&◌, ◌++◌, ◌==◌, ◌+◌, ◌-◌, ◌<◌, ◌∙◌, ◌∷◌, ◌≡◌, ◌≤◌, [], ap}
 use Rattle.std.specs.Prelude.{slice_range, not}
 use Rattle.std.proofs.lemmas.Bool.Decides.{nat_tests}
 use Rattle.std.proofs.lemmas.Bool.{cases_lt}
-use Rattle.std.proofs.lemmas.List.{at_drop_more, at_drop_all, take_more, get_or-drop, length-drop}
-use Rattle.std.proofs.lemmas.List.{append-nil}
+use Rattle.std.proofs.lemmas.List.{at_drop_more, at_drop_all, get_or-drop, length-drop, append-nil}
+use Rattle.std.proofs.lemmas.List.{take_more}
 use Rattle.gf_token.specs.Byte.{is_space, is_bare}
-use Rattle.gf_token.specs.LabelSpelling.{is_spelling, is_spelling_after}
+use Rattle.gf_token.specs.LabelSpelling.{is_spelling_after, is_spelling}
 use Rattle.gf_token.specs.Token.{lexeme}
-use Rattle.gf_token.specs.Token.Token.{Opening, Closing, Comma, Bare, Broken}
-use Rattle.gf_token.specs.inner.Lexing.{Mode, lex, ended, after, begins, last}
+use Rattle.gf_token.specs.Token.Token.{Closing, Opening, Broken, Comma, Bare}
+use Rattle.gf_token.specs.inner.Lexing.{begins, after, ended, Mode, last, lex}
 use Rattle.gf_token.specs.inner.Finding.{ClosesText}
-use Rattle.gf_token.specs.inner.Lexing.Mode.{Gap, InText, InBare}
+use Rattle.gf_token.specs.inner.Lexing.Mode.{InBare, InText, Gap}
 
 pub lex_more : (m : Mode) (bytes : List ℕ) (at : ℕ) → at < length bytes → lex m at
     (drop at bytes) ≡ ended m at (get_or bytes at 0) ++ lex (after m at (get_or bytes at 0))

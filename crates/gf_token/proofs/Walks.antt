@@ -50,8 +50,7 @@ module _ {S : Type 0} (step : S → Token → Result S Why) where
   walk_more ts t s mid after h e = walk_on ts (t ∷ []) s mid after h (rw e refl)
 
   -- what each step keeps holds wherever tokens lead
-  pub kept : (P : S → Type 0)
-      → ((s after : S) (t : Token) → P s → step s t ≡ Ok after → P after)
+  pub kept : (P : S → Type 0) → ((s after : S) (t : Token) → P s → step s t ≡ Ok after → P after)
       → (ts : List Token) (s after : S) → P s → walk step s ts ≡ Ok after → P after
   kept P keeps [] s after holds e = let same : s ≡ after = cc in subst P same holds
   kept P keeps (t ∷ ts) s after holds e =
@@ -133,8 +132,7 @@ module _ {S C : Type 0} (step : S → Token → Result S Why) (finish : S → Re
   goes_more t s next before [] is g = (g.0, rw is g.1)
   goes_more t s next before (u ∷ after) is g = (g.0, rw is g.1)
 
-  ends_read : (o : Result C Why) (end : ℕ) → HasPassed (placed end end o) end
-      → (r : C) × (o ≡ Ok r)
+  ends_read : (o : Result C Why) (end : ℕ) → HasPassed (placed end end o) end → (r : C) × (o ≡ Ok r)
   ends_read (Ok r) end h = (r, refl)
   ends_read (Err why) end h = absurd (omega (arith, h))
 

@@ -7,5 +7,4 @@ pub returns-then-by-twos-eq1 : goal.returns-then-by-twos-eq1
 returns-then-by-twos-eq1 c =
     let t = trailing_zeros w128 c.args.by in
     let part = wide_odd_part c.args.by t (omega arith) (omega arith) refl in
-    ap (λ k. c.args.n / k)
-    (omega (arith, ap (λ m. m * 2 ^ t) c.if-by-twos-eq1.true, part.parts))
+    ap (λ k. c.args.n / k) (omega (arith, ap (λ m. m * 2 ^ t) c.if-by-twos-eq1.true, part.parts))

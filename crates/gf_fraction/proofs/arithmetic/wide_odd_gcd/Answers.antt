@@ -6,8 +6,7 @@ use Rattle.gf_fraction.proofs.arithmetic.wide_odd_gcd.Goals as goal
 
 pub loop-x-preserved : goal.loop-x-preserved
 loop-x-preserved c =
-    led_on _ _ c.loop-x.x c.loop-x.y c.abs_diff-apart.result _ _ c.min-x.result
-    c.loop-x.invariant
+    led_on _ _ c.loop-x.x c.loop-x.y c.abs_diff-apart.result _ _ c.min-x.result c.loop-x.invariant
     (record { odd = c.odd_part-y.ensures.odd; parts = c.odd_part-y.ensures.parts.1 })
     c.abs_diff-apart.ensures c.min-x.ensures
 

@@ -25,5 +25,4 @@ returns c =
       power_is = omega (arith, ints);
     } in
     MatchResult-weaker c.scaled.result c.scaled.ensures
-    (λ f scaled. (grind (arith, power_of_ten-above)))
-    (λ fault over. (grind arith))
+    (λ f scaled. (grind (arith, power_of_ten-above))) (λ fault over. (grind arith))

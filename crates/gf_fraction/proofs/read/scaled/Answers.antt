@@ -1,7 +1,6 @@
-use Rattle.gf_fraction.proofs.LowestTerms.{value_from}
+use Rattle.gf_fraction.proofs.LowestTerms.{mul_pos_left, value_from}
 use Rattle.std.proofs.Common.{arith}
 use Rattle.std.proofs.lemmas.Int.{ints}
-use Rattle.gf_fraction.proofs.LowestTerms.{mul_pos_left}
 use Rattle.gf_fraction.proofs.PowersOfTen.{pow_above_zero}
 use Rattle.gf_fraction.proofs.read.scaled.Goals as goal
 

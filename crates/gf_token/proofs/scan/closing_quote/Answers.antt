@@ -1,7 +1,5 @@
-use Rattle.gf_token.proofs.Steps.{lex_more}
-use Rattle.gf_token.proofs.Steps.{range_none}
-use Rattle.std.proofs.Common.{arith, get_or}
-use Rattle.gf_token.proofs.Steps.{closes}
+use Rattle.gf_token.proofs.Steps.{range_none, lex_more, closes}
+use Rattle.std.proofs.Common.{get_or, arith}
 use Rattle.gf_token.proofs.scan.closing_quote.Goals as goal
 
 pub returns-then-input-first-eq34 : goal.returns-then-input-first-eq34

@@ -1,12 +1,9 @@
-use Rattle.gf_token.proofs.ScannedIndices.{none}
+use Rattle.gf_token.proofs.ScannedIndices.{first_digits, more_digits, more_value, has_room, none}
 use Rattle.std.proofs.Math.Nat.{pow-le-pow_right}
 use Rattle.std.proofs.lemmas.Int.Digits.{digits_value-lt}
-use Rattle.std.proofs.lemmas.List.{length-drop}
-use Rattle.std.proofs.lemmas.List.{length-take-le}
-use Rattle.std.proofs.Common.{arith, get_or}
+use Rattle.std.proofs.lemmas.List.{length-take-le, length-drop}
+use Rattle.std.proofs.Common.{get_or, arith}
 use Rattle.gf_fraction.proofs.Offered.{digit_from_ascii}
-use Rattle.gf_token.proofs.ScannedIndices.{first_digits, has_room}
-use Rattle.gf_token.proofs.ScannedIndices.{more_digits, more_value}
 use Rattle.gf_token.proofs.scan.digits_before.Goals as goal
 
 pub loop-at-init : goal.loop-at-init

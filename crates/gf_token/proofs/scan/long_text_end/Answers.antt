@@ -1,10 +1,5 @@
-use Rattle.gf_token.proofs.Steps.{goes_on}
-use Rattle.gf_token.proofs.Steps.{lex_more}
-use Rattle.gf_token.proofs.Steps.{no_close}
-use Rattle.gf_token.proofs.Steps.{range_more}
-use Rattle.std.proofs.Common.{append_assoc}
-use Rattle.std.proofs.Common.{arith}
-use Rattle.gf_token.proofs.Steps.{closes}
+use Rattle.gf_token.proofs.Steps.{range_more, lex_more, no_close, goes_on, closes}
+use Rattle.std.proofs.Common.{append_assoc, arith}
 use Rattle.gf_token.proofs.scan.long_text_end.Goals as goal
 use Rattle.gf_token.proofs.scan.long_text_end.Goals.{
   else-input-at-eq34-via-then-input-at-eq34+else-input-at-ne92,

@@ -1,6 +1,5 @@
 use Rattle.gf_token.proofs.ScannedIndices.{scanned}
-use Rattle.gf_token.proofs.ScannedNumbers.{finds_bare}
-use Rattle.gf_token.proofs.ScannedNumbers.{length_range}
+use Rattle.gf_token.proofs.ScannedNumbers.{length_range, finds_bare}
 use Rattle.gf_token.proofs.SpelledNumbers.{digits_spelled}
 use Rattle.gf_token.proofs.Steps.{gap_more}
 use Rattle.std.proofs.Common.{arith}

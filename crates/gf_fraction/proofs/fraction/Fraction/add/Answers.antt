@@ -16,10 +16,8 @@ use Rattle.gf_fraction.proofs.fraction.Fraction.add.Goals.{In_ok-num-2}
 equal : (c : After-total) → Adding c.args.self c.args.o (to_z w128 (of_z w128 c.self.inside.num))
     (to_z w128 (of_z w128 c.o.inside.num)) c.self.inside.den c.o.inside.den c.self.inside.den 1 1
 equal c =
-    Adding-equal c.args.self c.args.o _ _ _ _
-    (IsFraction-seen _ _ c.self.invariant c.self.view_is)
-    (IsFraction-seen _ _ c.o.invariant c.o.view_is)
-    (grind arith) (grind arith)
+    Adding-equal c.args.self c.args.o _ _ _ _ (IsFraction-seen _ _ c.self.invariant c.self.view_is)
+    (IsFraction-seen _ _ c.o.invariant c.o.view_is) (grind arith) (grind arith)
     (den_seen _ _ c.self.view_is) (den_seen _ _ c.o.view_is) c.if-self-o.true
 
 pub returns-in_err-num-clause-overflow : goal.returns-in_err-num-clause-overflow

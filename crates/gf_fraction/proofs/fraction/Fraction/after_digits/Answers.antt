@@ -1,6 +1,5 @@
 use Rattle.std.proofs.Common.{arith}
-use Rattle.gf_fraction.proofs.ShortNumbers.{left}
-use Rattle.gf_fraction.proofs.ShortNumbers.{read_on}
+use Rattle.gf_fraction.proofs.ShortNumbers.{read_on, left}
 use Rattle.gf_fraction.proofs.fraction.Fraction.after_digits.Goals as goal
 
 pub returns-clause-end : goal.returns-clause-end

@@ -14,8 +14,7 @@ reduced-requires-clause-common c = HoldsCommon-self _ _ c.self.invariant.0
 pub lowest-size-requires : goal.lowest-size-requires
 lowest-size-requires c =
     subst (HoldsCommon c.unsigned_abs-size.result c.self.inside.den)
-    (sym (c.self.invariant.2 (omega arith)))
-    (HoldsCommon-self _ _ c.self.invariant.0)
+    (sym (c.self.invariant.2 (omega arith))) (HoldsCommon-self _ _ c.self.invariant.0)
 
 pub returns-clause-value : goal.returns-clause-value
 returns-clause-value c =
