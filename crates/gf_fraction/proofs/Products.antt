@@ -63,10 +63,7 @@ module _ (x y : Ratio) (m n : ℕ) (b d p q r s : ℕ) (h : Multiplying x y m n 
       let g = first.by in
       let k = second.by in
       let regroup : p * r * ((s * k) * (q * g)) ≡ (p * g) * (r * k) * (s * q) = omega arith in
-      let sizes : p * r * (x.den * y.den) ≡ unsigned_abs x.num * unsigned_abs y.num * (s * q) =
-      sym (λ i. p * r * (second.den i * first.den i))
-      ∙ regroup
-      ∙ (λ i. first.num i * second.num i * (s * q)) in
+      let sizes : p * r * (x.den * y.den) ≡ unsigned_abs x.num * unsigned_abs y.num * (s * q) = grind arith in
       let size = unsigned_abs x.num * unsigned_abs y.num in
       let num : signed sign size ≡ x.num *ℤ y.num =
       sym (grind arith)

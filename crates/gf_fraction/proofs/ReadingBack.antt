@@ -153,10 +153,7 @@ fraction_is_read r h =
     let v = digits_value 10 (digits w.size) in
     let u = digits_value 10 (digits r.den) in
     let spelled : signed_decimal r.num ++ (47 ∷ []) ++ digits r.den
-    ≡ w.sign ++ (digits w.size ++ (47 ∷ []) ++ digits r.den) =
-    ap (λ t. t ++ (47 ∷ []) ++ digits r.den) w.spelled
-    ∙ ap (λ t. t ++ digits r.den) (append_assoc w.sign (digits w.size) (47 ∷ []))
-    ∙ append_assoc w.sign (digits w.size ++ 47 ∷ []) (digits r.den) in
+    ≡ w.sign ++ (digits w.size ++ (47 ∷ []) ++ digits r.den) = grind (arith, append_assoc) in
     record {
       negative = w.negative;
       reading = rational v u;

@@ -109,10 +109,7 @@ decimal_completes n v p q places text after rest short point h count few low =
       read_on = IsReadInWords.pointed h.digits rest h.run (omega (arith, same, few));
       has_shape =
           λ digits numeral value.
-          let all : digits_value 10 (digits ++ h.digits) ≡ v =
-          digits_value_after-append 0 digits h.digits
-          ∙ ap (λ m. digits_value_after 10 m h.digits) value
-          ∙ sym h.is in
+          let all : digits_value 10 (digits ++ h.digits) ≡ v = grind (arith, digits_value_after-append) in
           let numeral' : IsNumeral 10 (digits ++ h.digits) = (
             omega (arith, numeral.0, length-append digits h.digits),
             AllDigits-append digits h.digits numeral.1 h.run.all,

@@ -6,7 +6,7 @@ use Rattle.std.proofs.lemmas.Nat.{mul-pow, pow-add, pow_pos}
 use Rattle.std.proofs.lemmas.Nat.Bits.{bit_at-trailing_zeros}
 use Rattle.std.proofs.lemmas.Nat.Gcd.{dvd_refl, dvd_trans, dvd_of_mod-eq-zero, IsGcd-from_mod}
 use Rattle.std.proofs.Math.Nat.{div-mul_cancel, dvd-mul_right, dvd-mul_left, mul-dvd-mul_right}
-use Rattle.std.proofs.Math.Nat.{dvd_of_mul-dvd-mul_right, pow-succ', pow-zero}
+use Rattle.std.proofs.Math.Nat.{dvd_of_mul-dvd-mul_right, pow-succ'}
 use Rattle.gf_fraction.specs.inner.Steps.{HoldsCommon, IsLowest, IsPrime, IsReduced}
 use Rattle.gf_fraction.proofs.Divisors.{IsGcd-one_right, IsLowest-same, HoldsCommon-self}
 use Rattle.gf_fraction.proofs.Divisors.{coprime_parts, dvd_of_dvd-mul}
@@ -86,7 +86,7 @@ held_both p q k f some h = record {
 }
 
 -- a factor of k that has no common divisor with p except 1
-held_apart : (p q k m : ℕ) → IsGcd p m 1 → HoldsCommon p q (k * m) → HoldsCommon p q k
+pub held_apart : (p q k m : ℕ) → IsGcd p m 1 → HoldsCommon p q (k * m) → HoldsCommon p q k
 held_apart p q k m apart h = record {
   above_zero = grind arith;
   part = dvd_trans k (dvd-mul_right k m) h.part;
@@ -118,7 +118,7 @@ divided_by f n d p q k some whole h =
           (subst (λ x. HoldsCommon p x (k * f)) (sym q_is) h.held));
     }
 
-left_apart : (n d p q k m : ℕ) → IsGcd p m 1 → IsReduced n d p q (k * m) → IsReduced n d p q k
+pub left_apart : (n d p q k m : ℕ) → IsGcd p m 1 → IsReduced n d p q (k * m) → IsReduced n d p q k
 left_apart n d p q k m apart h = grind (arith, held_apart p q k m apart h.held)
 
 -- a prime, of which this many may be left in both
@@ -132,10 +132,6 @@ module _ (f n d p q k left : ℕ) (prime : IsPrime f) (h : IsReduced n d p q (k 
       let e : k * f ^ left ≡ k * f ^ (left - 1) * f = omega (arith, ap (λ x. k * x) power) in
       divided_by f n d p q (k * f ^ (left - 1)) (omega (arith, above)) whole
       (subst (IsReduced n d p q) e h)
-
-  pub all_divided : left ≡ 0 → IsReduced n d p q k
-  all_divided none =
-      grind (arith, pow-zero, left_apart, IsGcd-one_right)
 
   pub no_more : 0 < p % f → IsReduced n d p q k
   no_more odd = left_apart n d p q k (f ^ left) (coprime-pow p f left (prime.apart p odd)) h
@@ -154,7 +150,6 @@ divided_twos n d k count twos some fits is h =
     let more = count - twos in
     let parts : twos + more ≡ count = omega (arith, is) in
     let zeros = (bit_at-trailing_zeros w64 n some fits).2 in
-    let turned : more + twos ≡ count = omega (arith, parts) in
     let e : k * 2 ^ count ≡ k * 2 ^ more * 2 ^ twos = grind (arith, pow-add) in
     left_apart n d _ _ k (2 ^ more) (odd_apart n twos count more some fits parts is)
     (divided_by (2 ^ twos) n d n d (k * 2 ^ more) (pow_pos twos)

@@ -5,7 +5,7 @@ use Rattle.std.proofs.Common.{◌∙◌, subst, inl, inr, append_assoc}
 use Rattle.std.proofs.lemmas.List.{append-nil}
 use Rattle.std.specs.Prelude.{◌==◌, ◌||◌, ◌⊎◌, nat_lt, neg_ℤ, if◌then◌else◌}
 use Rattle.std.specs.Char.{digit_value, is_ascii_digit}
-use Rattle.std.specs.Str.Parse.{AllDigits, IsNumeral, digits_value, digits_value_after}
+use Rattle.std.specs.Str.Parse.{AllDigits, digits_value, digits_value_after}
 use Rattle.std.proofs.lemmas.Bool.{lt-ltb}
 use Rattle.std.proofs.lemmas.Bool.Decides.{nat_tests}
 use Rattle.gf_fraction.specs.Ratio.{signed}
@@ -14,7 +14,7 @@ use Rattle.gf_fraction.specs.NumberSpelling.Reading.{decimal, rational}
 use Rattle.gf_fraction.specs.NumberSpelling.IsPlain.{whole, pointed}
 use Rattle.gf_fraction.specs.NumberSpelling.HasShape.{plain, raised, fraction}
 use Rattle.gf_fraction.specs.inner.NumberScan.{capped, leading, unread, is_minus, after_sign, scan}
-use Rattle.gf_fraction.specs.inner.NumberScan.{scan_rest, scan_decimal, scan_end, scan_exponent}
+use Rattle.gf_fraction.specs.inner.NumberScan.{scan_rest, scan_decimal, scan_end}
 use Rattle.gf_fraction.specs.declared.read.Spelling.{Spelling}
 use Rattle.gf_fraction.specs.declared.read.Spelling.TheVariants.{Decimal, Rational}
 use Rattle.gf_fraction.proofs.LeadingDigits.{capped-after}
@@ -145,12 +145,6 @@ scan_plain _ _ more _ (pointed before after is) ends =
     either_side [] after h = above_zero after h
     either_side (b ∷ bs) after h = rw (above_zero (b ∷ bs) (omega arith))
 
-scan_exponent_is : (sign digits : List ℕ) (negative : Bool)
-    → IsSign sign negative → IsNumeral 10 digits → scan_exponent (sign ++ digits)
-    ≡ Some (capped_exponent (signed negative (digits_value 10 digits)))
-scan_exponent_is sign digits negative is_sign is =
-    grind (arith, sign_split, Unsigned-digits, leading-digits, above_zero)
-
 -- with an exponent
 exponent_ends : (more : List ℕ) (exponent : ℤ) → IsExponent more exponent → Ends more
 exponent_ends more exponent h =
@@ -167,6 +161,6 @@ scan_shape text _ (plain _ digits places is) =
     ap scan (sym (append-nil text)) ∙ scan_plain text digits [] places is none
 scan_shape _ _ (raised text more digits places exponent is by) =
     scan_plain text digits more places is (exponent_ends more exponent by)
-    ∙ (grind (arith, scan_exponent_is))
+    ∙ (grind (arith, sign_split, Unsigned-digits, leading-digits, above_zero))
 scan_shape _ _ (fraction num den is_num is_den) =
     grind (arith, append_assoc, leading-append, leading-digits, above_zero)

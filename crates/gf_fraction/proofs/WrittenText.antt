@@ -5,7 +5,7 @@ use Rattle.std.proofs.Common.{refl, ap, append-nil, append_assoc, length-append}
 use Rattle.std.specs.Prelude.{◌==◌, codes, decimal, unsigned_abs, if◌then◌else◌}
 use Rattle.std.specs.Int.{from_bool}
 use Rattle.std.specs.Int.Signed.{lt_z}
-use Rattle.std.proofs.Math.Seq.{take-add, take-append_seam, take-append-add}
+use Rattle.std.proofs.Math.Seq.{take-add, take-append_seam}
 use Rattle.std.specs.Fmt.{signed_decimal}
 use Rattle.std.proofs.lemmas.Fmt.{decimal_digit, decimal_step, length-decimal-le}
 use Rattle.std.proofs.Math.Dec.{leb-suc-zero}
@@ -26,17 +26,9 @@ pub digits_from : (old new number rest : List ℕ) (start : ℕ) → take start 
 digits_from old new number rest start before written =
     rw (take-add start (length number) new, before, written, take-append_seam number rest) refl
 
-signed : (z : ℤ) (rest : List ℕ)
+pub signed : (z : ℤ) (rest : List ℕ)
     → take (from_bool (lt_z z (pos 0))) (45 ∷ rest) ++ decimal (unsigned_abs z) ≡ signed_decimal z
 signed z rest = grind (arith, leb-suc-zero)
-
--- a minus is stored in any case, and kept if the number is below zero
-pub past_minus : (z : ℤ) (den : ℕ) (before rest : List ℕ)
-    → (take (length before + from_bool (lt_z z (pos 0))) (before ++ 45 ∷ rest)
-    ++ decimal (unsigned_abs z)) ++ under_text den
-    ≡ before ++ number_text (record { num = z; den = den })
-past_minus z den before rest =
-    grind (arith, take-append-add, append_assoc, signed, number_parts)
 
 longer : (n : ℕ) → 10 ≤ n → n < 2 ^ 64 → length (decimal n) ≡ length (decimal (n / 10)) + 1
 longer n lo hi = ap length (decimal_step n lo hi) ∙ length-append (decimal (n / 10)) _

@@ -9,8 +9,7 @@ of_words-requires-clause-den_above_zero c = grind (arith, mul_pos_left, pow_abov
 
 pub returns-in-Ok-try_from : goal.returns-in-Ok-try_from
 returns-in-Ok-try_from c =
-    let w = c.lowest_decimal-num in
-    (grind (arith, value_from, ints))
+    grind (arith, value_from, ints)
 
 pub returns-in_default : goal.returns-in_default
 returns-in_default c = grind (arith, ints)
