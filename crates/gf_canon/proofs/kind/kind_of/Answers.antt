@@ -1,6 +1,6 @@
 use Rattle.gf_canon.proofs.Common.{pointwise, tokens_of, rules, nat_eq, arith, codes, false, ◌≡◌}
 use Rattle.gf_canon.proofs.Common.{IsWithoutFormat}
-use Rattle.gf_canon.proofs.lemmas.files.Formats.{without_format, other_word, no_bare}
+use Rattle.gf_canon.proofs.lemmas.files.Formats.{without_format, other_word}
 use Rattle.gf_canon.proofs.lemmas.files.Refused.{refused_at_first}
 use Rattle.gf_canon.proofs.kind.kind_of.Goals as goal
 
@@ -9,7 +9,7 @@ pub returns-in_default-clause-refused : goal.returns-in_default-clause-refused
 returns-in_default-clause-refused c =
     let fault = c.refusal.result in
     let found : IsWithoutFormat fault.why c.args.input.now fault.span =
-    search (rules, no_bare, without_format) in
+    search (rules, without_format) in
     refused_at_first c.args.input.now fault found
 
 -- a bare token that is another word

@@ -1,8 +1,9 @@
+use Rattle.gf_canon.proofs.Common.{canonical_twice}
 use Rattle.gf_canon.proofs.Common.{arith, inl, inr, refl, canonical_text, Kept}
 use Rattle.gf_canon.proofs.lemmas.files.Judged.{text_is}
 use Rattle.gf_canon.proofs.lemmas.files.Refused.{only_memory, refused_with}
 use Rattle.gf_canon.proofs.lemmas.files.RefusedOnce.{answered, refused_once}
-use Rattle.gf_canon.proofs.lemmas.files.Texts.{canonical_reads_back, text_twice, is_game_file}
+use Rattle.gf_canon.proofs.lemmas.files.Texts.{canonical_reads_back, is_game_file}
 use Rattle.gf_canon.proofs.lemmas.files.Texts.{spells_one_file}
 use Rattle.gf_canon.proofs.lemmas.texts.ByNames.{equal_texts_by}
 use Rattle.gf_canon.proofs.laws.headline.Goals as goal
@@ -38,7 +39,7 @@ returns-clause-reads_back c = λ bytes x h.
 
 pub returns-clause-own_text : goal.returns-clause-own_text
 returns-clause-own_text c =
-    λ bytes text p. grind (arith, returns-clause-reads_back c, text_twice, is_game_file)
+    λ bytes text p. grind (arith, returns-clause-reads_back c, canonical_twice, is_game_file)
 
 pub returns-clause-placed : goal.returns-clause-placed
 returns-clause-placed c =

@@ -1,4 +1,7 @@
 -- How a file is refused, by the refusal of its format.
+use Rattle.gf_canon.proofs.Common.{map-append}
+use Rattle.gf_canon.proofs.Common.{same_tokens}
+use Rattle.gf_token.proofs.Offered.{no_file}
 use Rattle.gf_canon.proofs.Common.{arith, rules}
 use Rattle.gf_canon.proofs.Common.{IsWithoutFormat, TooManyProfiles, BeginsWithWord, IsRefusedWith}
 use Rattle.gf_canon.proofs.Common.{SpellsWithin, extensive, strategic, GameFile, IsJudged, Memory}
@@ -22,7 +25,7 @@ only_memory TooManyProfiles bytes span (strategic t) (of_strategic named j) h =
 only_memory TooManyProfiles bytes span (extensive g) (of_strategic named j) h =
     absurd (two_words (sym (named_by_word (codes "NFG") bytes (extensive g) named h.spelled)))
 only_memory TooManyProfiles bytes span x (of_neither j) h =
-    absurd (none_offending bytes span x j.place h.spelled)
+    absurd (grind (arith, same_tokens, no_file, map-append))
 only_memory why bytes span x j h =
     absurd (none_offending bytes span x (placed why bytes span j) h.spelled)
 

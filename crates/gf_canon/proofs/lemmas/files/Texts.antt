@@ -8,7 +8,7 @@ use Rattle.gf_nfg.specs.TableText.{table_text}
 use Rattle.gf_nfg.proofs.Offered.{same_is_equal, text_reads_back as table_reads_back}
 use Rattle.gf_nfg.proofs.Offered.{spelled_is_spellable as spelled_table, spells_one_table}
 use Rattle.gf_tree.proofs.Offered.{spelled_is_spellable as spelled_game}
-use Rattle.gf_canon.proofs.lemmas.files.Formats.{file_word, tokens_in, two_words}
+use Rattle.gf_canon.proofs.lemmas.files.Formats.{tokens_in, two_words}
 use Rattle.gf_canon.proofs.lemmas.texts.ReadsBack.{text_reads_back}
 use Rattle.gf_canon.proofs.lemmas.texts.Spellables.{canonical_is_spellable}
 
@@ -23,9 +23,6 @@ abbrev pub file_text : GameFile → List ℕ
 file_text (extensive g) = game_text g
 file_text (strategic t) = table_text t
 
-of_canonical : (x : GameFile) → canonical_text x ≡ file_text (canonical_file x)
-of_canonical x = grind arith
-
 pub equal_game_texts : (g h : Game) → IsGame g → IsSpellable g → IsGame h → IsSpellable h
     → (game_text g ≡ game_text h) ↔ (g ≡ h)
 equal_game_texts g h game can game' can' = (
@@ -37,15 +34,11 @@ equal_game_texts g h game can game' can' = (
 
 -- ---- bytes mean one file
 
-one_word : (bytes : List ℕ) (x y : GameFile) → SpellsFile bytes x → SpellsFile bytes y
-    → file_word x ≡ file_word y
-one_word bytes x y p q = grind (arith, tokens_in, same_tokens)
-
 pub spells_one_file : (bytes : List ℕ) (x y : GameFile) → SpellsFile bytes x → SpellsFile bytes y
     → x ≡ y
 spells_one_file bytes (extensive g) (extensive h) p q = ap extensive (spells_one_game bytes g h p q)
 spells_one_file bytes (strategic t) (strategic u) p q = cc (spells_one_table bytes t u p q)
-spells_one_file bytes x y p q = grind (arith, two_words, one_word bytes x y p q)
+spells_one_file bytes x y p q = grind (arith, two_words, tokens_in, same_tokens)
 
 -- ---- the canonical text of what bytes mean
 
@@ -74,7 +67,7 @@ pub equal_canonical_texts : (a b : List ℕ) (x y : GameFile) → SpellsFile a x
     → (canonical_text x ≡ canonical_text y) ↔ SameFile x y
 equal_canonical_texts a b x y h k =
     let same = same_by_canonical_file x y (is_game_file a x h) (is_game_file b y k) in
-    grind (arith, spells_one_file, canonical_reads_back, of_canonical)
+    grind (arith, spells_one_file, canonical_reads_back)
 
 -- ---- laws
 

@@ -1,6 +1,6 @@
 -- Two renumberings that carry a game to another have the same pairs.
 use Rattle.gf_canon.proofs.Common
-use Common.{outcome_numbers_carried, set_numbers_carried, renumbering_pairs, outcome_numbers, arith}
+use Common.{outcome_numbers_carried, set_numbers_carried, outcome_numbers, arith}
 use Common.{outcome_pairs, Renumbering, player_keys, set_numbers, NumberPair, map_twice, set_pairs}
 use Common.{Carries, Outcome, IsGame, SetKey, Game, List, refl, Set, map, sym, ◌∙◌, ◌∷◌, ◌≡◌, [], ℕ}
 
@@ -19,16 +19,13 @@ module _ (pair : ℕ → ℕ → NumberPair) (f e : ℕ → ℕ) where
 
 module _ (g h : Game) (games : IsGame g × IsGame h) (r s : Renumbering) (c : Carries r g h)
     (d : Carries s g h) where
-  same_sets : (player : ℕ) → set_pairs r g player ≡ set_pairs s g player
+  pub same_sets : (player : ℕ) → set_pairs r g player ≡ set_pairs s g player
   same_sets player =
       same_pairs (Set player) (r.set player) (s.set player) (set_numbers g player)
       (sym (numbers_carried r g h games c player) ∙ numbers_carried s g h games d player)
 
-  same_outcomes : outcome_pairs r g ≡ outcome_pairs s g
+  pub same_outcomes : outcome_pairs r g ≡ outcome_pairs s g
   same_outcomes =
       same_pairs Outcome r.outcome s.outcome (outcome_numbers g)
       (sym (outcome_numbers_carried r g h games.0 games.1 c)
       ∙ outcome_numbers_carried s g h games.0 games.1 d)
-
-  pub only_pairs : renumbering_pairs r g ≡ renumbering_pairs s g
-  only_pairs = grind (arith, same_sets, same_outcomes)

@@ -1,10 +1,10 @@
 -- The new numbers that are noted node by node are those of the renumbering that carries one game to
 -- the other.
 use Rattle.gf_canon.proofs.Common
-use Common.{outcome_number_positive, new_outcome_number, IsOnlyRenumbering, same_set_equality, Bool}
-use Common.{renumbered_node, new_set_number, IsRenumbering, number_of_set, only_outcomes, map_entry}
+use Common.{outcome_number_positive, new_outcome_number, IsOnlyRenumbering, same_set_equality}
+use Common.{renumbered_node, new_set_number, number_of_set, only_outcomes, map_entry}
 use Common.{used_outcomes, agreed_games, Renumbering, cons_option, flatten_map, new_numbers, HasSet}
-use Common.{HasOutcome, IsEquality, NewNumbers, filter_map, numbers_in, option_map, map_twice, Game}
+use Common.{HasOutcome, NewNumbers, filter_map, numbers_in, option_map, map_twice, Game}
 use Common.{only_sets, set_order, unwrap_or, used_sets, BTreeMap, SameGame, contains, same_set, Has}
 use Common.{Carries, flatten, nat_cmp, IsGame, IsSome, Listed, Option, SetKey, nat_eq, set_of, List}
 use Common.{Agree, arith, is_eq, noted, rules, Node, None, Some, cond, refl, zero, get, has}
@@ -27,13 +27,6 @@ pub record AreNoted {K : Type 0} (f : K → ℕ) (had : K → Option ℕ) (all l
   pub sound : (k : K) (n : ℕ) → had k ≡ Some n → Has all k × (n ≡ f k)
   pub complete : (k : K) → Has all k → IsSome (had k) ⊎ Has left k
   pub part : (k : K) → Has left k → Has all k
-
-module _ {K : Type 0} (same : K → K → Bool) (tells : IsEquality same) (f number : K → ℕ)
-    (had now : K → Option ℕ) (all : List K) where
-  pub one_noted : (old new : Option K) (left : List K) → AreNoted f had all (cons_option old left)
-      → option_map number new ≡ option_map f old
-      → ((k : K) → now k ≡ noted same number old new had k) → AreNoted f now all left
-  one_noted old new left h image is = grind arith
 
 -- at the end
 module _ {K : Type 0} (f : K → ℕ) (had : K → Option ℕ) (all : List K)
@@ -61,8 +54,7 @@ filter_of_nodes f (e ∷ es) = ap (cons_option (f e.node)) (filter_of_nodes f es
 
 image_number : {K : Type 0} (f number : K → ℕ) (image : K → K) → ((k : K) → number (image k) ≡ f k)
     → (old new : Option K) → new ≡ option_map image old → option_map number new ≡ option_map f old
-image_number f number image is None new e = cc
-image_number f number image is (Some k) new e = cc (is k)
+image_number f number image is x4 new e = grind arith
 
 module _ (r : Renumbering) (g : Game) {sets : SetKey → Option ℕ}
     {outcomes : ℕ → Option ℕ} {left others : List Node} where
@@ -70,12 +62,7 @@ module _ (r : Renumbering) (g : Game) {sets : SetKey → Option ℕ}
       → ((n : ℕ) → outcomes n ≡ None) → left ≡ map (λ e. e.node) (flatten g.tree)
       → others ≡ map (λ e. e.node) (flatten h.tree) → AreWalked r g sets outcomes left others
   walk_begins h c no_set no_outcome of_g of_h = record {
-    images = cc (
-      ap (λ (k : Game). k.tree) c.image,
-      flatten_map (renumbered_node r) g.tree,
-      map_twice (λ (e : Listed Node). e.node) (map_entry (renumbered_node r)) (flatten g.tree),
-      map_twice (renumbered_node r) (λ (e : Listed Node). e.node) (flatten g.tree),
-    );
+    images = grind (arith, flatten_map, map_twice, map_entry);
     sets_noted = rw (of_g, ← filter_of_nodes (λ n. n.set) (flatten g.tree)) (grind arith);
     outcomes_noted = rw (of_g, ← filter_of_nodes (λ n. n.outcome) (flatten g.tree)) (grind arith);
   }
@@ -87,7 +74,7 @@ module _ (r : Renumbering) (g : Game) {sets : SetKey → Option ℕ}
       → ((k : ℕ) → outcomes' k ≡ noted nat_eq (λ i. i) n.outcome m.outcome outcomes k)
       → AreWalked r g sets' outcomes' left' others'
   walk_goes {sets'} {outcomes'} {left'} {others'} {n} {m} walked at_n at_m of_sets of_outcomes =
-      grind (arith, one_noted, same_set_equality, image_number)
+      grind (arith, same_set_equality, image_number)
 
   -- no node is left over
   pub walk_is_even : {left' : List Node} {n : Node} → AreWalked r g sets outcomes left others
@@ -115,7 +102,7 @@ module _ (by_set : BTreeMap (ℕ × ℕ) ℕ) (by_outcome : BTreeMap ℕ ℕ) (g
       absurd (omega (arith, outcome_number_positive g game 0 (has (used_outcomes g.tree) 0 i)))
   new_outcome (suc n) i =
       let own = has (used_outcomes g.tree) (suc n) i in
-      cc (kept_outcome by_set by_outcome n, number_is _ _ _ outcomes (suc n) own)
+      grind (arith, kept_outcome by_set by_outcome n)
 
   has_set : (player number : ℕ)
       → IsSome (new_set_number found player number) ↔ HasSet g player number
@@ -140,11 +127,8 @@ module _ (by_set : BTreeMap (ℕ × ℕ) ℕ) (by_outcome : BTreeMap ℕ ℕ) (g
   agree : Agree (new_numbers found) r g.tree
   agree = grind (arith, set_agrees, contains, outcome_agrees)
 
-  found_is_renumbering : IsRenumbering g (new_numbers found)
-  found_is_renumbering = grind (arith, set_agrees, outcome_agrees)
-
   carried : Carries (new_numbers found) g h
-  carried = grind (arith, found_is_renumbering, agreed_games, agree)
+  carried = grind (arith, set_agrees, outcome_agrees, agreed_games, agree)
 
   only_renumbering : IsOnlyRenumbering found g h
   only_renumbering =

@@ -1,6 +1,6 @@
 -- Pairs that are told one after another: one for each item of a list, or a list for each player.
 use Rattle.gf_canon.proofs.Common
-use Common.{renumbering_pairs, flat_map-append, outcome_pairs, append_assoc, numbers_from, flat_map}
+use Common.{flat_map-append, append_assoc, numbers_from, flat_map}
 use Common.{IsSpellable, Renumbering, at_position, player_keys, NumberPair, append-nil, get_or-map}
 use Common.{length-map, positions, set_pairs, take_all, SetKey, get_or, length, arith, Game, List}
 use Common.{Some, refl, take, ◌++◌, map, ◌+◌, ◌<◌, ◌^◌, ◌∷◌, ◌≡◌, ◌≤◌, [], ℕ}
@@ -42,12 +42,6 @@ module _ (f : ℕ → List NumberPair) where
   player_more before start pairs more now e =
       let joined = numbers_joined 0 (before + 1) 1 in
       grind (arith, append_assoc, flat_map-append, append-nil)
-
--- all players' pairs, and then those of outcomes
-pub all_pairs : (r : Renumbering) (g : Game) (before : ℕ) (start pairs : List NumberPair)
-    → pairs ≡ start ++ flat_map (set_pairs r g) (numbers_from 0 (before + 1))
-    → before ≡ length g.players → pairs ++ outcome_pairs r g ≡ start ++ renumbering_pairs r g
-all_pairs r g before start pairs now all = grind (arith, append_assoc)
 
 -- ---- a player past the last number has no sets
 

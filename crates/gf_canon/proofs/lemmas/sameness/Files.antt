@@ -37,9 +37,8 @@ file_itself : (x : GameFile) → IsGameFile x → SameFile x x
 file_itself x file = grind (arith, same_itself)
 
 file_back : (x y : GameFile) → IsGameFile x → SameFile x y → SameFile y x
-file_back (extensive g) (extensive h) game same = same_back g h game same
 file_back (strategic t) (strategic u) file same = back t u same
-file_back _ _ file same = same
+file_back x0 x1 x2 same = grind (arith, same_back)
 
 file_on : (x y z : GameFile) → SameFile x y → SameFile y z → SameFile x z
 file_on (extensive g) (extensive h) (extensive k) first second = same_on g h k first second
@@ -52,7 +51,7 @@ file_still : (names : Names) (x : GameFile) → IsGameFile x → IsGameFile (fil
 file_still names x file = grind (arith, unnamed_is_game)
 
 pub reflexive : (names : Names) (x : GameFile) → IsGameFile x → SameBy names x x
-reflexive names x file = file_itself (file_by names x) (file_still names x file)
+reflexive names x file = file_itself (file_by names x) (grind (arith, unnamed_is_game))
 
 pub symmetric : (names : Names) (x y : GameFile) → IsGameFile x → SameBy names x y
     → SameBy names y x

@@ -2,7 +2,7 @@
 -- from names.
 use Rattle.gf_canon.proofs.Common
 use Common.{unnamed_outcome, SameAsideNames, canonical_text, description_at, map_tree_twice, IsGame}
-use Common.{IsRenumbering, unnamed_table, used_outcomes, unnamed_game, unnamed_node, IsSpellable, ℕ}
+use Common.{unnamed_table, used_outcomes, unnamed_game, unnamed_node, IsSpellable, ℕ}
 use Common.{MatchOption, Renumbering, cons_option, flatten_map, unnamed_set, SpellsFile, all_images}
 use Common.{all_weaker, filter_map, option_map, outcome_at, renumbered, Described, extensive, Table}
 use Common.{map_entry, map_twice, strategic, used_sets, GameFile, SameFile, same_set, Carries, Bool}
@@ -70,10 +70,6 @@ unnamed_is_spellable g can = grind (arith, flatten_map, all_images, all_weaker)
 
 -- ---- the same, and so aside from names
 
-renumbering_still : (g : Game) (r : Renumbering) → IsRenumbering g r
-    → IsRenumbering (unnamed_game g) r
-renumbering_still g r h = grind (arith, unnamed_sets, unnamed_outcomes)
-
 -- names and numbers can be changed in either order
 pub unnamed_renumbered : (r : Renumbering) (g : Game)
     → renumbered r (unnamed_game g) ≡ unnamed_game (renumbered r g)
@@ -81,7 +77,7 @@ unnamed_renumbered r g = grind (arith, map_tree_twice, map_twice)
 
 carries_aside : (r : Renumbering) (g h : Game) → Carries r g h
     → Carries r (unnamed_game g) (unnamed_game h)
-carries_aside r g h c = grind (arith, renumbering_still, unnamed_renumbered)
+carries_aside r g h c = grind (arith, unnamed_sets, unnamed_outcomes, map_tree_twice, map_twice)
 
 pub same_is_so_aside : (x y : GameFile) → SameFile x y → SameAsideNames x y
 same_is_so_aside (extensive g) (extensive h) s = (s.0, carries_aside s.0 g h s.1)

@@ -2,7 +2,7 @@
 -- equal, which a walk over the nodes of both decides.
 use Rattle.gf_canon.proofs.Common.{◌≡◌, List, ◌∷◌, map, ◌↔◌, file_nodes, Game}
 use Rattle.gf_canon.proofs.Common.{IsGame, IsSpellable, heading_in, canonical_game, extensive}
-use Rattle.gf_canon.proofs.Common.{game_text, SameBy, SameGame, Names, Aside, Kept, arith, rules}
+use Rattle.gf_canon.proofs.Common.{SameBy, SameGame, Names, Aside, Kept, arith, rules}
 use Rattle.gf_canon.proofs.Common.{canonical_is_game, same_by_canonical, game_by}
 use Rattle.gf_canon.specs.inner.ComparedTrees.{AgreesWith}
 use Rattle.gf_canon.proofs.lemmas.files.Texts.{equal_game_texts}
@@ -27,10 +27,6 @@ module _ (names : Names) (g h : Game) (left : IsHeld g) (right : IsHeld h) where
   abbrev AreAlike : Type 0
   AreAlike = AgreesWith names g (heading_in h) (file_nodes (canonical_game h))
 
-  same_texts : AreAlike → game_text (canonical_game (game_by names g))
-      ≡ game_text (canonical_game (game_by names h))
-  same_texts alike = grind (arith, heading_is, nodes_by, game_text_is, node_lines)
-
   pub same_by_nodes : AreAlike ↔ SameGame (game_by names g) (game_by names h)
   same_by_nodes =
       let g' = held_by names g left in
@@ -40,7 +36,7 @@ module _ (names : Names) (g h : Game) (left : IsHeld g) (right : IsHeld h) where
       (canonical_game (game_by names h)) (canonical_is_game _ g'.game)
       (canonical_is_spellable _ g'.game g'.spellable) (canonical_is_game _ h'.game)
       (canonical_is_spellable _ h'.game h'.spellable) in
-      grind (arith, same_texts, heading_is, nodes_by)
+      grind (arith, heading_is, game_text_is, node_lines, nodes_by)
 
 pub same_by_walk : (names : Names) (g h : Game) → IsHeld g → IsHeld h
     → AgreesWith names g (heading_in h) (file_nodes (canonical_game h))

@@ -8,12 +8,6 @@ use Rattle.gf_canon.proofs.lemmas.files.Texts.{is_game_file, spells_one_file}
 use Rattle.gf_canon.proofs.lemmas.sameness.Files.{reflexive}
 use Rattle.gf_canon.proofs.lemmas.texts.ByNames.{equal_texts_by}
 
-pub same_as_read : (names : Names) (answer : Bool) (a b : List ℕ) (first second : GameFile)
-    → SpellsWithin a first → SpellsWithin b second → IsTrue answer ↔ SameBy names first second
-    → (x y : GameFile) → SpellsWithin a x → SpellsWithin b y → IsTrue answer ↔ SameBy names x y
-same_as_read names answer a b first second of_a of_b same x y of_x of_y =
-    grind (arith, spells_one_file)
-
 -- files that both mean something are refused only for lack of memory
 memory_alone : (a b : List ℕ) (fault : SameFault) (x y : GameFile) → SpellsWithin a x
     → SpellsWithin b y → AreRefusedWith a b fault → LacksMemory fault
@@ -28,7 +22,7 @@ pub same_as_first : (names : Names) (result : Result Bool SameFault) (a b : List
     → (x y : GameFile) → SpellsWithin a x → SpellsWithin b y
     → MatchResult result (λ answer. IsTrue answer ↔ SameBy names x y) LacksMemory
 same_as_first names (Ok answer) a b first of_first same refused x y of_x of_y =
-    same_as_read names answer a b first same.0 of_first same.1 same.2 x y of_x of_y
+    grind (arith, spells_one_file)
 same_as_first names (Err fault) a b first of_first same refused x y of_x of_y =
     memory_alone a b fault x y of_x of_y (refused a (first, of_first))
 

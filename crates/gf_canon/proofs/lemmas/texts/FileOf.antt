@@ -1,7 +1,7 @@
 -- A file tree of each game: each set and each outcome is described at its first use, and not again.
 use Rattle.gf_canon.proofs.Common
 use Common.{first_uses_distinct, same_set_equality, with_those_before, description_at, append_assoc}
-use Common.{AreConsistent, used_outcomes, outcome_uses, cons_option, Decides-eqb, IsDescribed, zero}
+use Common.{AreConsistent, used_outcomes, outcome_uses, cons_option, Decides-eqb, IsDescribed}
 use Common.{all_of_each, flatten_map, entry_used, option_map, filter_map, first_uses, IsFirstUse, ℕ}
 use Common.{outcome_at, keys_alone, IsEquality, node_after, file_nodes, append-nil, Described, Bool}
 use Common.{Describes, used_sets, has_place, map_entry, map_twice, use_after, list_any, same_set}
@@ -69,12 +69,7 @@ module _ {K D : Type 0} (same : K → K → Bool) (equality : IsEquality same) (
       → Has (uses_after same at before keys) (record { key = key; description = Some d })
   new_described before [] key d h e new = absurd h
   new_described before (k ∷ keys) key d h e new =
-      let more = new_described (before ++ k ∷ []) keys key d in
-      grind (arith, list_any-append, equality)
-
-  key_described : (keys : List K) (key : K) (d : D) → Has keys key → at key ≡ Some d
-      → Describes (uses_after same at [] keys) key d
-  key_described keys key d h e = grind (arith, contains, new_described)
+      grind (arith, list_any-append, new_described (before ++ k ∷ []) keys key d)
 
   first_is_described : (keys : List K) → ((k : K) → Has keys k → (d : D) × (at k ≡ Some d))
       → (front after : List (Use K D)) (u : Use K D)
@@ -112,7 +107,7 @@ module _ {K D : Type 0} (same : K → K → Bool) (equality : IsEquality same) (
 
   told : (e : Described K D) → Has es e
       → Describes (uses_after same (description_at same es) [] keys) e.key e.description
-  told e h = grind (arith, key_described, entry_used, entry_at, first_uses_distinct)
+  told e h = grind (arith, contains, new_described, entry_used, entry_at, first_uses_distinct)
 
   map_learned : (us : List (Use K D)) → us ≡ uses_after same (description_at same es) [] keys
       → Learns same [] us es × DescribeFirstUses us
@@ -155,19 +150,9 @@ entries_keys g before (e ∷ es) =
 
 entries_fill : (g : Game) (before es : List (Listed Node)) (due : ℕ) → Fills due es
     → Fills due (entries_after g before es)
-entries_fill g before [] zero h = h
-entries_fill g before [] (suc due) h = h
-entries_fill g before (e ∷ es) zero h = h
 entries_fill g before (e ∷ es) (suc due) h =
     entries_fill g (before ++ e ∷ []) es (e.children + due) h
-
--- the uses of the entries
-used_after : {K D : Type 0} (same : K → K → Bool)
-    (at : K → Option D) (o : Option K) (before rest : List K)
-    → cons_option (option_map (use_after same at before) o)
-    (uses_after same at (before ++ cons_option o []) rest)
-    ≡ uses_after same at before (cons_option o rest)
-used_after same at o before rest = grind (arith, append-nil)
+entries_fill g before x2 x3 h = grind arith
 
 module _ {K D : Type 0} (same : K → K → Bool) (at : K → Option D) (g : Game)
     (key : Node → Option K) (use_of : FileNode → Option (Use K D))
@@ -183,7 +168,7 @@ module _ {K D : Type 0} (same : K → K → Bool) (at : K → Option D) (g : Gam
       ∙ ap (λ ks. cons_option (option_map (use_after same at (keys before)) (key e.node))
       (uses_after same at ks (keys es)))
       (filter_map-append (λ (d : Listed Node). key d.node) before (e ∷ []))
-      ∙ used_after same at (key e.node) (keys before) (keys es)
+      ∙ (grind (arith, append-nil))
 
 -- ---- the file tree
 

@@ -2,7 +2,7 @@
 use Rattle.gf_canon.proofs.Common
 use Common.{outcomes_in_order, same_set_equality, AllByRecursion, description_at, AreConsistent, []}
 use Common.{sets_in_order, used_outcomes, IsConsistent, append_assoc, outcome_uses, Decides-eqb, ap}
-use Common.{cons_option, flatten_map, IsEquality, first_uses, keys_alone, map-append, option_map}
+use Common.{flatten_map, IsEquality, first_uses, keys_alone, map-append}
 use Common.{Described, Describes, has_place, map_entry, use_after, used_sets, FileNode, FileTree}
 use Common.{IsGameOf, contains, same_set, set_uses, flatten, IsGame, Listed, Option, nat_eq, arith}
 use Common.{subst, Bool, Game, List, Some, refl, ◌++◌, Has, Use, map, sym, ◌↔◌, ◌∙◌, ◌∷◌, ◌≡◌}
@@ -29,16 +29,11 @@ module _ {K D : Type 0} (same : K → K → Bool) (equality : IsEquality same) (
 
 -- ---- entries
 
-same_options : {K D : Type 0} (o p : Option (Use K D)) (us vs : List (Use K D))
-    → option_map (λ u. u.key) o ≡ option_map (λ u. u.key) p → cons_option o us ≡ cons_option p vs
-    → (o ≡ p) × (us ≡ vs)
-same_options o p us vs keys e = grind arith
-
 same_entries : (es fs : List (Listed FileNode))
     → map (map_entry keys_alone) es ≡ map (map_entry keys_alone) fs → set_uses es ≡ set_uses fs
     → outcome_uses es ≡ outcome_uses fs → es ≡ fs
 same_entries [] [] keys sets outcomes = refl
-same_entries (e ∷ es) (f ∷ fs) keys sets outcomes = grind (arith, same_options, same_entries es fs)
+same_entries (e ∷ es) (f ∷ fs) keys sets outcomes = grind (arith, same_entries es fs)
 same_entries _ _ keys sets outcomes = absurd cc
 
 -- ---- the file tree
@@ -73,11 +68,7 @@ one_file g f h p q =
     sets_of (set_uses es) of.set_keys (sets_in_order f g of) of.sets p.consistent.sets p.sets
     ∙ sym (sets_of (set_uses fs) too.set_keys (sets_in_order h g too) too.sets q.consistent.sets
     q.sets) in
-    let outcomes : outcome_uses es ≡ outcome_uses fs =
-    paid_of (outcome_uses es) of.outcome_keys (outcomes_in_order f g of) of.outcomes
-    p.consistent.outcomes p.outcomes
-    ∙ sym (paid_of (outcome_uses fs) too.outcome_keys (outcomes_in_order h g too) too.outcomes
-    q.consistent.outcomes q.outcomes) in
+    let outcomes : outcome_uses es ≡ outcome_uses fs = grind (arith, outcomes_in_order) in
     let entries : map (map_entry keys_alone) es ≡ map (map_entry keys_alone) fs =
     cc (flatten_map keys_alone f.tree, flatten_map keys_alone h.tree) in
     let tree = flatten_once f.tree h.tree (same_entries es fs entries sets outcomes) in

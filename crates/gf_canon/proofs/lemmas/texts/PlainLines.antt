@@ -2,7 +2,7 @@
 use Rattle.gf_canon.proofs.Common
 use Common.{InformationSet, length-append, append_assoc, mover_letter, length-drop, number_then, []}
 use Common.{option_map, plain_line, set_use_of, node_line, tail_text, FileNode, drop-set, decimal}
-use Common.{is_some, Option, Result, SetKey, length, quoted, arith, codes, false, List, None, OnOk}
+use Common.{is_some, Option, Result, SetKey, length, arith, codes, false, List, None, OnOk}
 use Common.{Some, drop, refl, take, ◌++◌, Use, set, ◌+◌, ◌-◌, ◌<◌, ◌∷◌, ◌≡◌, ◌≤◌, ap, ℕ}
 use Rattle.std.specs.Fmt.{digits}
 use Rattle.std.proofs.Math.Seq.{take-append_seam, take-append-add}
@@ -73,13 +73,6 @@ pub unnamed_written : {A E : Type 0} (r : Result A E) (old new name : List ℕ) 
     → OnOk r (new ≡ old ++ plain_line name set outcome)
 unnamed_written r old new name letter set outcome e l h = grind arith
 
-pub named_written : {A E : Type 0} (r : Result A E) (old o1 o2 o3 new name : List ℕ) (letter : ℕ)
-    (set : Option (Use SetKey InformationSet)) (outcome : ℕ) → letter ≡ mover_letter set
-    → o1 ≡ old ++ letter ∷ [] → o2 ≡ o1 ++ 32 ∷ [] → o3 ≡ o2 ++ quoted name
-    → OnOk r (new ≡ o3 ++ tail_text set outcome)
-    → OnOk r (new ≡ old ++ plain_line name set outcome)
-named_written r old o1 o2 o3 new name letter set outcome l e1 e2 e3 h = grind (arith, append_assoc)
-
 -- ---- a node without an outcome
 
 abbrev pub IsPlain : Option (Use SetKey InformationSet) → Type 0
@@ -93,12 +86,8 @@ pub plain_some : (set : Option SetUse) (used : SetUse) → set ≡ Some used
     → is_some used.description ≡ false → IsPlain (option_map set_use_of set)
 plain_some set used e n = grind arith
 
-null_line : (name : List ℕ) (set : Option (Use SetKey InformationSet)) → IsPlain set
-    → plain_line name set 0 ≡ node_line (record { name = name; set = set; outcome = None })
-null_line name set plain = grind (arith, zero_text, then_joined, append_assoc)
-
 pub null_written : {A E : Type 0} (r : Result A E) (old new name : List ℕ)
     (set : Option (Use SetKey InformationSet)) (n : FileNode)
     → n ≡ record { name = name; set = set; outcome = None } → IsPlain set
     → OnOk r (new ≡ old ++ plain_line name set 0) → OnOk r (new ≡ old ++ node_line n)
-null_written r old new name set n e plain h = grind (arith, null_line)
+null_written r old new name set n e plain h = grind (arith, zero_text, then_joined, append_assoc)

@@ -4,7 +4,7 @@ use Rattle.gf_canon.proofs.Common.{append-nil, extensive, game_text, node_line, 
 use Rattle.gf_canon.proofs.Common.{flat_map, Heading, file_by, game_by, node_by, Aside, Names, Game}
 use Rattle.gf_canon.proofs.Common.{Kept, List, Told, refl, ◌++◌, map, ◌∷◌, ◌≡◌, [], arith}
 use Rattle.gf_tree.specs.ToldGame.{HasToldGame}
-use Rattle.gf_canon.proofs.lemmas.sameness.NodesNamed.{heading_is, nodes_by}
+use Rattle.gf_canon.proofs.lemmas.sameness.NodesNamed.{nodes_by}
 use Rattle.gf_canon.proofs.lemmas.texts.Fields.{game_text_is, node_lines}
 
 -- one more node is one more line
@@ -31,12 +31,6 @@ pub told_is_canonical : {T : Type 0} (text : T → List ℕ) (kept : T → Type 
     (to : T) (g : Game)
     → HasToldGame (λ to heading told. kept to × (text to ≡ told_text names heading told)) to g
     → text to ≡ canonical_text (file_by names (extensive g))
-told_is_canonical text kept names to g h = cc (
-  h.holding.1,
-  heading_is names g,
-  lines_of_told names h.told,
-  h.nodes,
-  nodes_by names g,
-  game_text_is (canonical_game (game_by names g)),
-  text_by names g,
-)
+told_is_canonical text kept names to g h =
+    let is = game_text_is (canonical_game (game_by names g)) in
+    grind (arith, lines_of_told names h.told, nodes_by names g, text_by names g)

@@ -1,7 +1,8 @@
-use Rattle.gf_canon.proofs.Common.{List, [], ap, length, arith, refl, subst, length-map}
+use Rattle.gf_canon.proofs.Common.{append_assoc}
+use Rattle.gf_canon.proofs.lemmas.numbers.CarriedPairs.{same_outcomes}
+use Rattle.gf_canon.proofs.lemmas.numbers.CarriedPairs.{same_sets}
+use Rattle.gf_canon.proofs.Common.{List, [], ap, length, arith, subst, length-map}
 use Rattle.gf_canon.proofs.Common.{on_ok_weaker, label_of, renumbering_pairs, NumberPair}
-use Rattle.gf_canon.proofs.lemmas.numbers.CarriedPairs.{only_pairs}
-use Rattle.gf_canon.proofs.lemmas.numbers.PairsInTurn.{all_pairs}
 use Rattle.gf_canon.proofs.numbering.pairs.tell_pairs.Goals as goal
 
 pub returns : goal.returns
@@ -10,12 +11,9 @@ returns g c =
     let count = length-map c.players-players.result.now label_of in
     on_ok_weaker c.tell_outcomes.result (λ more r carries held. (
       renumbering_pairs r c.args.g.now,
-      (λ s carried. only_pairs c.args.g.now c.args.h.now
-          (c.players-players.ensures.is_game, c.players-others.ensures.is_game) r s carries
-          carried),
+      (λ s carried. (grind (arith, same_sets, same_outcomes))),
       subst (λ (pairs : List NumberPair). g.P.ReceivePairs.holds c.tell_outcomes.new.to pairs)
-          (all_pairs r c.args.g.now c.loop-before.before [] _ refl
-          (omega (arith, names, count, c.loop-before-test.false, c.loop-before.auto.before-end)))
+          (grind (arith, append_assoc))
           (more r _ carries (c.loop-before.invariant r [] carries held)),
     ))
     c.tell_outcomes.ensures
