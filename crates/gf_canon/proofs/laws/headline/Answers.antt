@@ -1,10 +1,8 @@
-use Rattle.gf_canon.proofs.Common.{canonical_twice}
-use Rattle.gf_canon.proofs.Common.{arith, inl, inr, refl, canonical_text, Kept}
+use Rattle.gf_canon.proofs.Common.{canonical_twice, canonical_text, arith, Kept, refl, inl, inr}
 use Rattle.gf_canon.proofs.lemmas.files.Judged.{text_is}
-use Rattle.gf_canon.proofs.lemmas.files.Refused.{only_memory, refused_with}
-use Rattle.gf_canon.proofs.lemmas.files.RefusedOnce.{answered, refused_once}
-use Rattle.gf_canon.proofs.lemmas.files.Texts.{canonical_reads_back, is_game_file}
-use Rattle.gf_canon.proofs.lemmas.files.Texts.{spells_one_file}
+use Rattle.gf_canon.proofs.lemmas.files.Refused.{refused_with, only_memory}
+use Rattle.gf_canon.proofs.lemmas.files.RefusedOnce.{refused_once, answered}
+use Rattle.gf_canon.proofs.lemmas.files.Texts.{canonical_reads_back, spells_one_file, is_game_file}
 use Rattle.gf_canon.proofs.lemmas.texts.ByNames.{equal_texts_by}
 use Rattle.gf_canon.proofs.laws.headline.Goals as goal
 

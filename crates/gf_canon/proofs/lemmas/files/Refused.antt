@@ -1,11 +1,9 @@
 -- How a file is refused, by the refusal of its format.
-use Rattle.gf_canon.proofs.Common.{map-append}
-use Rattle.gf_canon.proofs.Common.{same_tokens}
-use Rattle.gf_token.proofs.Offered.{no_file}
-use Rattle.gf_canon.proofs.Common.{arith, rules}
 use Rattle.gf_canon.proofs.Common.{IsWithoutFormat, TooManyProfiles, BeginsWithWord, IsRefusedWith}
-use Rattle.gf_canon.proofs.Common.{SpellsWithin, extensive, strategic, GameFile, IsJudged, Memory}
-use Rattle.gf_canon.proofs.Common.{Result, Fault, IfErr, codes, List, Span, refl, Why, sym, ◌≡◌, ℕ}
+use Rattle.gf_canon.proofs.Common.{SpellsWithin, same_tokens, map-append, extensive, strategic, Why}
+use Rattle.gf_canon.proofs.Common.{GameFile, IsJudged, Memory, Result, Fault, IfErr, arith, codes}
+use Rattle.gf_canon.proofs.Common.{rules, List, Span, refl, sym, ◌≡◌, ℕ}
+use Rattle.gf_token.proofs.Offered.{no_file}
 use Rattle.gf_canon.specs.Judgement.IsJudged.{of_extensive, of_strategic, of_neither}
 use Rattle.gf_canon.specs.declared.kind.FileKind.{FileKind}
 use Rattle.gf_canon.specs.inner.KindWord.{word_of}

@@ -69,9 +69,8 @@ step_joined name (Some set) ys = grind (arith, append_assoc, mover_joined, other
 -- ---- lines
 
 -- a line, written in two parts and its end
-pub line_written : (old out1 out2 out3 x y line : List ℕ)
-    → out1 ≡ old ++ x → out2 ≡ out1 ++ y → out3 ≡ out2 ++ 10 ∷ [] → line ≡ x ++ y
-    → out3 ≡ old ++ (line ++ 10 ∷ [])
+pub line_written : (old out1 out2 out3 x y line : List ℕ) → out1 ≡ old ++ x → out2 ≡ out1 ++ y
+    → out3 ≡ out2 ++ 10 ∷ [] → line ≡ x ++ y → out3 ≡ old ++ (line ++ 10 ∷ [])
 line_written old out1 out2 out3 x y line e1 e2 e3 e = grind (arith, append_assoc)
 
 -- the lines of the nodes

@@ -1,6 +1,5 @@
 -- What is told of a file determines what it means.
-use Rattle.gf_canon.proofs.Common.{ℕ, List, refl, Heading, Told}
-use Rattle.gf_canon.proofs.Common.{extensive, strategic}
+use Rattle.gf_canon.proofs.Common.{extensive, strategic, Heading, List, Told, refl, ℕ}
 use Rattle.gf_canon.specs.KindOfFile.{MeansFileOf}
 use Rattle.gf_canon.specs.inner.ToldFile.{IsToldFile}
 use Rattle.gf_canon.specs.declared.kind.FileKind.{FileKind}

@@ -8,10 +8,9 @@ use Rattle.gf_canon.proofs.lemmas.sameness.NodesNamed.{nodes_by}
 use Rattle.gf_canon.proofs.lemmas.texts.Fields.{game_text_is, node_lines}
 
 -- one more node is one more line
-pub one_line_more : (names : Names) (heading : Heading) (told : List Told) (t : Told)
-    (n : FileNode) (old new : List ℕ) → n ≡ node_by names t.node
-    → old ≡ told_text names heading told → new ≡ old ++ node_line n
-    → new ≡ told_text names heading (told ++ t ∷ [])
+pub one_line_more : (names : Names) (heading : Heading) (told : List Told) (t : Told) (n : FileNode)
+    (old new : List ℕ) → n ≡ node_by names t.node → old ≡ told_text names heading told
+    → new ≡ old ++ node_line n → new ≡ told_text names heading (told ++ t ∷ [])
 one_line_more names heading told t n old new is before more =
     grind (arith, append_assoc, append-nil, flat_map-append)
 

@@ -1,4 +1,4 @@
-use Rattle.gf_canon.proofs.Common.{arith, rules}
+use Rattle.gf_canon.proofs.Common.{rules}
 use Rattle.gf_canon.specs.MeaningOf.{file_of_listed}
 use Rattle.gf_canon.proofs.lemmas.texts.Compared.{same_as_first, same_as_itself}
 use Rattle.gf_canon.proofs.sameness.same_by.Goals as goal
@@ -11,6 +11,3 @@ returns-in-Ok-list_file-clause-same c =
     same_as_first c.args.names c.same_as-answer.result c.args.a.now c.args.b.now
     (file_of_listed c.in-Ok-list_file.first) c.in-Ok-list_file.ensures.spelled
     c.same_as-answer.ensures.same c.same_as-answer.ensures.refused
-
-pub returns-in-Ok-list_file-clause-refused : goal.returns-in-Ok-list_file-clause-refused
-returns-in-Ok-list_file-clause-refused c = grind arith

@@ -1,8 +1,6 @@
-use Rattle.gf_canon.proofs.Common.{append_assoc}
-use Rattle.gf_canon.proofs.lemmas.numbers.CarriedPairs.{same_outcomes}
-use Rattle.gf_canon.proofs.lemmas.numbers.CarriedPairs.{same_sets}
-use Rattle.gf_canon.proofs.Common.{List, [], ap, length, arith, subst, length-map}
-use Rattle.gf_canon.proofs.Common.{on_ok_weaker, label_of, renumbering_pairs, NumberPair}
+use Rattle.gf_canon.proofs.Common.{renumbering_pairs, append_assoc, on_ok_weaker, NumberPair, arith}
+use Rattle.gf_canon.proofs.Common.{length-map, label_of, length, subst, List, [], ap}
+use Rattle.gf_canon.proofs.lemmas.numbers.CarriedPairs.{same_outcomes, same_sets}
 use Rattle.gf_canon.proofs.numbering.pairs.tell_pairs.Goals as goal
 
 pub returns : goal.returns
@@ -15,5 +13,4 @@ returns g c =
       subst (λ (pairs : List NumberPair). g.P.ReceivePairs.holds c.tell_outcomes.new.to pairs)
           (grind (arith, append_assoc))
           (more r _ carries (c.loop-before.invariant r [] carries held)),
-    ))
-    c.tell_outcomes.ensures
+    )) c.tell_outcomes.ensures

@@ -1,4 +1,4 @@
-use Rattle.gf_canon.proofs.Common.{arith, at_drop_all, flat_map, action_fields, common_steps}
+use Rattle.gf_canon.proofs.Common.{arith, at_drop_all, flat_map, action_fields}
 use Rattle.gf_tree.specs.Actions.{actions_of}
 use Rattle.gf_canon.proofs.lemmas.texts.Fields.{actions_left, list_closed}
 use Rattle.gf_canon.proofs.text.braces.write_actions.Goals as goal
@@ -9,9 +9,3 @@ returns-clause-text c =
     c.in_ok-extend_from_slice.ensures.items c.in_ok-push.ensures.items
     (at_drop_all actions_left c.args.actions.now c.loop-action.action-index (omega arith))
     c.loop-action.invariant.0
-
-pub loop-action-init : goal.loop-action-init
-loop-action-init c = grind (arith, common_steps)
-
-pub loop-action-preserved : goal.loop-action-preserved
-loop-action-preserved c = grind (arith, common_steps)

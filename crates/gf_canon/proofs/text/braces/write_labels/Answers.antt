@@ -1,4 +1,4 @@
-use Rattle.gf_canon.proofs.Common.{arith, at_drop_all, map, quoted, label_of, common_steps}
+use Rattle.gf_canon.proofs.Common.{arith, at_drop_all, map, quoted, label_of}
 use Rattle.gf_canon.proofs.lemmas.texts.Fields.{labels_left, list_closed}
 use Rattle.gf_canon.proofs.text.braces.write_labels.Goals as goal
 
@@ -8,9 +8,3 @@ returns-clause-text c =
     c.in_ok-extend_from_slice.ensures.items c.in_ok-push-2.ensures.items
     (at_drop_all labels_left c.args.labels.now c.loop-label.label-index (omega arith))
     c.loop-label.invariant.0
-
-pub loop-label-init : goal.loop-label-init
-loop-label-init c = grind (arith, common_steps)
-
-pub loop-label-preserved : goal.loop-label-preserved
-loop-label-preserved c = grind (arith, common_steps)

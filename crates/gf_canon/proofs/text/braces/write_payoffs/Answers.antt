@@ -1,4 +1,4 @@
-use Rattle.gf_canon.proofs.Common.{arith, at_drop_all, map, common_steps}
+use Rattle.gf_canon.proofs.Common.{arith, at_drop_all, map}
 use Rattle.gf_fraction.specs.NumberText.{number_text}
 use Rattle.gf_canon.proofs.lemmas.texts.Fields.{payoffs_left, list_closed}
 use Rattle.gf_canon.proofs.text.braces.write_payoffs.Goals as goal
@@ -9,9 +9,3 @@ returns-clause-text c =
     c.in_ok-extend_from_slice.ensures.items c.in_ok-push-2.ensures.items
     (at_drop_all payoffs_left c.args.payoffs.now c.loop-payoff.payoff-index (omega arith))
     c.loop-payoff.invariant.0
-
-pub loop-payoff-init : goal.loop-payoff-init
-loop-payoff-init c = grind (arith, common_steps)
-
-pub loop-payoff-preserved : goal.loop-payoff-preserved
-loop-payoff-preserved c = grind (arith, common_steps)

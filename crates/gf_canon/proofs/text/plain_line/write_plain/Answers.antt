@@ -1,8 +1,7 @@
-use Rattle.gf_canon.proofs.Common.{append_assoc}
-use Rattle.gf_canon.proofs.Common.{◌≡◌, replicate, ℕ, List, ◌∙◌, ◌∷◌, ap, drop, length, arith, refl}
-use Rattle.gf_canon.proofs.Common.{sym, nat_tests, nil_from_length, label_of, set_use_of, tail_text}
-use Rattle.gf_canon.proofs.Common.{common_steps, option_map}
-use Rattle.gf_canon.proofs.lemmas.texts.PlainLines.{tail_length, unnamed_written}
+use Rattle.gf_canon.proofs.Common.{nil_from_length, append_assoc, option_map, set_use_of, nat_tests}
+use Rattle.gf_canon.proofs.Common.{replicate, tail_text, label_of, length, arith, List, drop, refl}
+use Rattle.gf_canon.proofs.Common.{sym, ◌∙◌, ◌∷◌, ◌≡◌, ap, ℕ}
+use Rattle.gf_canon.proofs.lemmas.texts.PlainLines.{unnamed_written, tail_length}
 use Rattle.gf_canon.proofs.text.plain_line.write_plain.Goals as goal
 
 pub returns-then-is_empty-clause-text : goal.returns-then-is_empty-clause-text
@@ -30,9 +29,3 @@ returns-clause-text c =
     (tail_text (option_map set_use_of c.args.set) c.args.outcome) t.result
     (omega (arith, t.array_long)) refl t.ensures.within.1 t.ensures.written in
     grind (arith, append_assoc)
-
-pub returns-clause-kept : goal.returns-clause-kept
-returns-clause-kept c = grind (arith, common_steps)
-
-pub returns-then-is_empty-clause-kept : goal.returns-then-is_empty-clause-kept
-returns-then-is_empty-clause-kept c = grind (arith, common_steps)
