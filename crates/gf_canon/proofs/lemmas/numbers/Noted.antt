@@ -4,7 +4,7 @@ use Rattle.gf_canon.proofs.Common
 use Common.{outcome_number_positive, new_outcome_number, IsOnlyRenumbering, same_set_equality}
 use Common.{renumbered_node, new_set_number, number_of_set, only_outcomes, map_entry}
 use Common.{used_outcomes, agreed_games, Renumbering, cons_option, flatten_map, new_numbers, HasSet}
-use Common.{HasOutcome, NewNumbers, filter_map, numbers_in, option_map, map_twice, Game}
+use Common.{HasOutcome, NewNumbers, filter_map, numbers_in, map_twice, Game}
 use Common.{only_sets, set_order, unwrap_or, used_sets, BTreeMap, SameGame, contains, same_set, Has}
 use Common.{Carries, flatten, nat_cmp, IsGame, IsSome, Listed, Option, SetKey, nat_eq, set_of, List}
 use Common.{Agree, arith, is_eq, noted, rules, Node, None, Some, cond, refl, zero, get, has}
@@ -52,10 +52,6 @@ filter_of_nodes : {K : Type 0} (f : Node → Option K) (es : List (Listed Node))
 filter_of_nodes f [] = refl
 filter_of_nodes f (e ∷ es) = ap (cons_option (f e.node)) (filter_of_nodes f es)
 
-image_number : {K : Type 0} (f number : K → ℕ) (image : K → K) → ((k : K) → number (image k) ≡ f k)
-    → (old new : Option K) → new ≡ option_map image old → option_map number new ≡ option_map f old
-image_number f number image is x4 new e = grind arith
-
 module _ (r : Renumbering) (g : Game) {sets : SetKey → Option ℕ}
     {outcomes : ℕ → Option ℕ} {left others : List Node} where
   pub walk_begins : (h : Game) → Carries r g h → ((k : SetKey) → sets k ≡ None)
@@ -74,7 +70,7 @@ module _ (r : Renumbering) (g : Game) {sets : SetKey → Option ℕ}
       → ((k : ℕ) → outcomes' k ≡ noted nat_eq (λ i. i) n.outcome m.outcome outcomes k)
       → AreWalked r g sets' outcomes' left' others'
   walk_goes {sets'} {outcomes'} {left'} {others'} {n} {m} walked at_n at_m of_sets of_outcomes =
-      grind (arith, same_set_equality, image_number)
+      grind (arith, same_set_equality)
 
   -- no node is left over
   pub walk_is_even : {left' : List Node} {n : Node} → AreWalked r g sets outcomes left others

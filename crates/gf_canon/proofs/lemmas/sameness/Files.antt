@@ -47,15 +47,12 @@ file_on _ _ _ first second = grind arith
 
 -- ---- with names, or without
 
-file_still : (names : Names) (x : GameFile) → IsGameFile x → IsGameFile (file_by names x)
-file_still names x file = grind (arith, unnamed_is_game)
-
 pub reflexive : (names : Names) (x : GameFile) → IsGameFile x → SameBy names x x
 reflexive names x file = file_itself (file_by names x) (grind (arith, unnamed_is_game))
 
 pub symmetric : (names : Names) (x y : GameFile) → IsGameFile x → SameBy names x y
     → SameBy names y x
-symmetric names x y file = file_back (file_by names x) (file_by names y) (file_still names x file)
+symmetric names x y file = file_back (file_by names x) (file_by names y) (grind (arith, unnamed_is_game))
 
 pub transitive : (names : Names) (x y z : GameFile) → SameBy names x y → SameBy names y z
     → SameBy names x z

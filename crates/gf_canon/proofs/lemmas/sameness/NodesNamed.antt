@@ -1,7 +1,7 @@
 -- The nodes of a game without its names are its nodes without theirs.
 use Rattle.gf_canon.proofs.Common
 use Common.{first_use_numbers, unnamed_outcome, canonical_game, unnamed_game, unnamed_node, flatten}
-use Common.{flatten_map, unnamed_set, file_nodes, filter_map, heading_by, heading_in, map-append}
+use Common.{flatten_map, unnamed_set, file_nodes, filter_map, map-append}
 use Common.{node_after, option_map, outcome_at, map_entry, use_after, FileNode, same_set, game_by}
 use Common.{node_by, Listed, Option, nat_eq, set_at, use_by, Aside, Names, arith, Bool, Game, Kept}
 use Common.{List, Node, refl, ◌++◌, map, sym, ◌∷◌, ◌≡◌, []}
@@ -72,7 +72,3 @@ nodes_by Kept g = sym (map-id (file_nodes (canonical_game g)))
 nodes_by Aside g =
     let nodes = file_nodes_aside (canonical_game g) in
     cc (numbers_aside g, unnamed_renumbered (first_use_numbers g) g)
-
-pub heading_is : (names : Names) (g : Game)
-    → heading_in (game_by names g) ≡ heading_by names (heading_in g)
-heading_is names g = grind arith

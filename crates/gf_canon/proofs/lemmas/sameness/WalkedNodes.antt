@@ -6,7 +6,7 @@ use Rattle.gf_canon.proofs.Common.{SameBy, SameGame, Names, Aside, Kept, arith, 
 use Rattle.gf_canon.proofs.Common.{canonical_is_game, same_by_canonical, game_by}
 use Rattle.gf_canon.specs.inner.ComparedTrees.{AgreesWith}
 use Rattle.gf_canon.proofs.lemmas.files.Texts.{equal_game_texts}
-use Rattle.gf_canon.proofs.lemmas.sameness.NodesNamed.{heading_is, nodes_by}
+use Rattle.gf_canon.proofs.lemmas.sameness.NodesNamed.{nodes_by}
 use Rattle.gf_canon.proofs.lemmas.texts.Spellables.{canonical_is_spellable}
 use Rattle.gf_canon.proofs.lemmas.texts.Fields.{game_text_is, node_lines}
 use Rattle.gf_canon.proofs.lemmas.sameness.Unnamed.{unnamed_is_game, unnamed_is_spellable}
@@ -36,7 +36,7 @@ module _ (names : Names) (g h : Game) (left : IsHeld g) (right : IsHeld h) where
       (canonical_game (game_by names h)) (canonical_is_game _ g'.game)
       (canonical_is_spellable _ g'.game g'.spellable) (canonical_is_game _ h'.game)
       (canonical_is_spellable _ h'.game h'.spellable) in
-      grind (arith, heading_is, game_text_is, node_lines, nodes_by)
+      grind (arith, game_text_is, node_lines, nodes_by)
 
 pub same_by_walk : (names : Names) (g h : Game) → IsHeld g → IsHeld h
     → AgreesWith names g (heading_in h) (file_nodes (canonical_game h))

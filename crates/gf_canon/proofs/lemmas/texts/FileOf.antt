@@ -40,10 +40,9 @@ module _ {K D : Type 0} (same : K → K → Bool) (at : K → Option D) where
       → uses_after before keys ≡ front ++ u ∷ after
       → u ≡ use_after same at (before ++ map (λ v. v.key) front) u.key
   use_at_place before [] [] after u e = absurd cc
-  use_at_place before [] (v ∷ front) after u e = absurd cc
-  use_at_place before (k ∷ keys) [] after u e = grind (arith, append-nil)
   use_at_place before (k ∷ keys) (v ∷ front) after u e =
       grind (arith, use_at_place (before ++ k ∷ []) keys front after u, append_assoc)
+  use_at_place before x1 x2 after u e = grind (arith, append-nil)
 
   -- a described use is that of a new key
   new_where_described : (before : List K) (key : K) (d : D)
