@@ -38,7 +38,7 @@ file_itself x file = grind (arith, same_itself)
 
 file_back : (x y : GameFile) → IsGameFile x → SameFile x y → SameFile y x
 file_back (strategic t) (strategic u) file same = back t u same
-file_back x0 x1 x2 same = grind (arith, same_back)
+file_back x y file same = grind (arith, same_back)
 
 file_on : (x y z : GameFile) → SameFile x y → SameFile y z → SameFile x z
 file_on (extensive g) (extensive h) (extensive k) first second = same_on g h k first second
@@ -52,7 +52,8 @@ reflexive names x file = file_itself (file_by names x) (grind (arith, unnamed_is
 
 pub symmetric : (names : Names) (x y : GameFile) → IsGameFile x → SameBy names x y
     → SameBy names y x
-symmetric names x y file = file_back (file_by names x) (file_by names y) (grind (arith, unnamed_is_game))
+symmetric names x y file =
+    file_back (file_by names x) (file_by names y) (grind (arith, unnamed_is_game))
 
 pub transitive : (names : Names) (x y z : GameFile) → SameBy names x y → SameBy names y z
     → SameBy names x z

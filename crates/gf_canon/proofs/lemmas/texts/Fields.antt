@@ -58,11 +58,11 @@ others_joined (x ∷ xs) ys = grind (arith, append_assoc, others_joined xs ys)
 -- who moves, and what comes after
 pub mover_joined : (name : List ℕ) (player : ℕ) (ys : List (List ℕ))
     → spaced (mover_fields name player ++ ys) ≡ spaced (mover_fields name player) ++ others_text ys
-mover_joined name x1 ys = grind (arith, spaced_is, others_joined, append_assoc)
+mover_joined name player ys = grind (arith, spaced_is, others_joined, append_assoc)
 
 pub step_joined : (name : List ℕ) (set : Option (Use SetKey InformationSet)) (ys : List (List ℕ))
     → spaced (step_fields name set ++ ys) ≡ spaced (step_fields name set) ++ others_text ys
-step_joined name x1 ys = grind (arith, spaced_is, others_joined, append_assoc, mover_joined)
+step_joined name set ys = grind (arith, spaced_is, others_joined, append_assoc, mover_joined)
 
 -- ---- lines
 

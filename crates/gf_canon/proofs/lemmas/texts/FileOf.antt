@@ -42,7 +42,7 @@ module _ {K D : Type 0} (same : K → K → Bool) (at : K → Option D) where
   use_at_place before [] [] after u e = absurd cc
   use_at_place before (k ∷ keys) (v ∷ front) after u e =
       grind (arith, use_at_place (before ++ k ∷ []) keys front after u, append_assoc)
-  use_at_place before x1 x2 after u e = grind (arith, append-nil)
+  use_at_place before keys front after u e = grind (arith, append-nil)
 
   -- a described use is that of a new key
   new_where_described : (before : List K) (key : K) (d : D)
@@ -151,7 +151,7 @@ entries_fill : (g : Game) (before es : List (Listed Node)) (due : ℕ) → Fills
     → Fills due (entries_after g before es)
 entries_fill g before (e ∷ es) (suc due) h =
     entries_fill g (before ++ e ∷ []) es (e.children + due) h
-entries_fill g before x2 x3 h = grind arith
+entries_fill g before es due h = grind arith
 
 module _ {K D : Type 0} (same : K → K → Bool) (at : K → Option D) (g : Game)
     (key : Node → Option K) (use_of : FileNode → Option (Use K D))
