@@ -2,7 +2,6 @@
 use Rattle.std.specs.Prelude.{◌≡◌, ◌↔◌, ℕ, Bool, true, false, IsTrue, List, Option, Some, None}
 use Rattle.gf_canon.specs.GameFile.{GameFile}
 use Rattle.gf_canon.specs.CanonicalText.{SpellsWithin}
-use Rattle.gf_canon.specs.Judgement.{MeansFile}
 use Rattle.gf_canon.specs.SameBy.{SameBy}
 use Rattle.gf_token.specs.declared.names.Names.{Names}
 use Rattle.gf_calls.specs.Refused.{AreRefusedAs, Refusal}
@@ -14,11 +13,9 @@ same_status true = Status.Done
 same_status false = Status.Different
 
 -- both mean files, and the answer says whether they are the same
-pub record IsSameAnswer (names : Names) (a b : List ℕ) (same : Bool) : Type 0 where
-  pub first : MeansFile a
-  pub second : MeansFile b
-  pub right : (x y : GameFile) → SpellsWithin a x → SpellsWithin b y
-      → IsTrue same ↔ SameBy names x y
+abbrev pub IsSameAnswer : Names → List ℕ → List ℕ → Bool → Type 0
+IsSameAnswer names a b same = (x y : GameFile) × SpellsWithin a x × SpellsWithin b y
+    × (IsTrue same ↔ SameBy names x y)
 
 -- the answer, or why there is none
 pub data IsCompared (names : Names) (a b : List ℕ) (old new : Refusal) (status : Status)

@@ -8,7 +8,7 @@ ghost use Rattle.gf_canon.specs.NamesAside.{IsTextBy};
 ghost use Rattle.gf_calls.specs.Numbers.{names_by};
 ghost use Rattle.gf_calls.specs.Written.{IsHashBy, IsWrittenBy};
 
-use crate::fault::{FaultNumbers, tell};
+use crate::fault::{FaultNumbers, report};
 use crate::flags::names_by;
 use crate::handing::hand_out;
 use crate::status::Status;
@@ -34,7 +34,7 @@ pub fn write_canonical(
     };
     match canonical_by(alloc, input, names) {
         Ok(text) => hand_out(&text, out, needed),
-        Err(refusal) => tell(refusal, fault),
+        Err(refusal) => report(refusal, fault),
     }
 }
 
@@ -63,7 +63,7 @@ pub fn write_hash(
     };
     let text = match canonical_text(alloc, input, names) {
         Ok(text) => text,
-        Err(refusal) => return tell(refusal, fault),
+        Err(refusal) => return report(refusal, fault),
     };
     match hash_of(alloc, text) {
         Ok(hash) => hand_out(hash.as_bytes(), out, needed),

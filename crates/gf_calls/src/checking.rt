@@ -4,7 +4,7 @@ ghost use Rattle.std.specs.Prelude.{◌≡◌};
 ghost use Rattle.gf_calls.specs.Checked.{IsChecked};
 ghost use Rattle.gf_calls.specs.Numbers.{kind_number};
 
-use crate::fault::{FaultNumbers, tell};
+use crate::fault::{FaultNumbers, report};
 use crate::status::Status;
 use gf_canon::{FileKind, check};
 use std::alloc::Global;
@@ -28,6 +28,6 @@ pub fn check_file(alloc: Global, input: &[u8], kind: &mut u32, fault: &mut Fault
             *kind = kind_number(found);
             Status::Done
         }
-        Err(refusal) => tell(refusal, fault),
+        Err(refusal) => report(refusal, fault),
     }
 }

@@ -6,7 +6,7 @@ ghost use Rattle.gf_calls.specs.Compared.{IsComparedBy, same_status};
 ghost use Rattle.gf_calls.specs.Numbers.{names_by};
 ghost use Rattle.gf_calls.specs.Refused.{AreRefusedAs};
 
-use crate::fault::{FaultNumbers, tell};
+use crate::fault::{FaultNumbers, report};
 use crate::flags::names_by;
 use crate::status::Status;
 use gf_canon::{SameFault, same_by};
@@ -24,7 +24,7 @@ fn same_status(same: bool) -> Status
 
 /// Reports why two files are not compared, and which of them is refused: 0 for the first, 1 for the
 /// second.
-pub fn tell_of_two(refusal: SameFault, fault: &mut FaultNumbers, which: &mut u32) -> Status
+pub fn report_of_two(refusal: SameFault, fault: &mut FaultNumbers, which: &mut u32) -> Status
     ensures { (a b : List ℕ) → AreRefusedWith a b refusal
         → AreRefusedAs a b (record { which = which.old; numbers = fault.old })
         (record { which = which.new; numbers = fault.new }) result }
@@ -32,11 +32,11 @@ pub fn tell_of_two(refusal: SameFault, fault: &mut FaultNumbers, which: &mut u32
     match refusal {
         SameFault::First(refusal) => {
             *which = 0;
-            tell(refusal, fault)
+            report(refusal, fault)
         }
         SameFault::Second(refusal) => {
             *which = 1;
-            tell(refusal, fault)
+            report(refusal, fault)
         }
         SameFault::Memory => Status::OutOfMemory,
     }
@@ -60,6 +60,6 @@ pub fn compare(
     };
     match same_by(alloc, a, b, names) {
         Ok(same) => same_status(same),
-        Err(refusal) => tell_of_two(refusal, fault, which),
+        Err(refusal) => report_of_two(refusal, fault, which),
     }
 }

@@ -5,7 +5,7 @@ ghost use Rattle.std.specs.Str.Lossy.{utf8_lossy};
 ghost use Rattle.gf_explain.specs.Explained as refusal;
 ghost use Rattle.gf_calls.specs.Explained.{IsExplained, explained_status};
 
-use crate::fault::{FaultNumbers, tell};
+use crate::fault::{FaultNumbers, report};
 use crate::handing::hand_out;
 use crate::status::Status;
 use gf_canon::check;
@@ -55,7 +55,7 @@ pub fn write_explanation(
         Ok(_) => return Status::Done,
         Err(refusal) => refusal,
     };
-    let status = tell(refusal, fault);
+    let status = report(refusal, fault);
     if refusal.why == Why::Memory {
         return status;
     }

@@ -54,7 +54,7 @@ fn refusal_status(why: Why) -> Status
 }
 
 /// Reports a refusal, and returns its status.
-pub fn tell(fault: Fault, numbers: &mut FaultNumbers) -> Status
+pub fn report(fault: Fault, numbers: &mut FaultNumbers) -> Status
     ensures status { result ≡ refusal_status fault.why }
     ensures numbers { numbers.new ≡ fault_numbers fault }
 {

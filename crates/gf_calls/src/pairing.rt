@@ -2,7 +2,7 @@
 
 ghost use Rattle.gf_calls.specs.Paired.{IsPaired};
 
-use crate::comparing::tell_of_two;
+use crate::comparing::report_of_two;
 use crate::fault::FaultNumbers;
 use crate::handing::hand_out;
 use crate::pair::{Pair, ToldPairs};
@@ -39,6 +39,6 @@ pub fn write_renumbering(
     match pairs_of_files(alloc, a, b, &mut told) {
         Ok(true) => hand_out(&told.pairs, out, needed),
         Ok(false) => Status::Different,
-        Err(refusal) => tell_of_two(refusal, fault, which),
+        Err(refusal) => report_of_two(refusal, fault, which),
     }
 }

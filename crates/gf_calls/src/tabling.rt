@@ -8,7 +8,7 @@ ghost use Rattle.gf_canon.specs.MeaningOf.{file_of};
 ghost use Rattle.gf_calls.specs.Numbers.{strategies_by};
 ghost use Rattle.gf_calls.specs.Tabled.{IsMadeText, IsTabled, IsTabledBy, form_status, profile_of};
 
-use crate::fault::{FaultNumbers, tell};
+use crate::fault::{FaultNumbers, report};
 use crate::flags::strategies_by;
 use crate::handing::hand_out;
 use crate::status::Status;
@@ -31,7 +31,7 @@ fn whole_text(alloc: Global, table: &Table) -> Result<Vec<u8>, AllocError>
 }
 
 /// Reports why a game has no table.
-fn tell_form(fault: FormFault, profile: &mut u64) -> Status
+fn report_form(fault: FormFault, profile: &mut u64) -> Status
     ensures status { result ≡ form_status fault }
     ensures profile { profile.new ≡ profile_of fault profile.old }
 {
@@ -45,8 +45,8 @@ fn tell_form(fault: FormFault, profile: &mut u64) -> Status
     }
 }
 
-/// Writes the text of a table that was made.
-fn write_made(alloc: Global, table: &Table, out: &mut [u8], needed: &mut usize) -> Status
+/// Writes the canonical text of a table.
+fn write_text(alloc: Global, table: &Table, out: &mut [u8], needed: &mut usize) -> Status
     ensures { IsMadeText table.now out.old out.new needed.old needed.new result }
 {
     match whole_text(alloc, table) {
@@ -55,6 +55,7 @@ fn write_made(alloc: Global, table: &Table, out: &mut [u8], needed: &mut usize) 
     }
 }
 
+/// Writes the form of a game by these strategies, or reports why there is none.
 fn write_form(
     alloc: Global,
     game: &Game<'_>,
@@ -73,11 +74,12 @@ fn write_form(
         return Status::Misuse;
     }
     match form_by(alloc, game, strategies) {
-        Ok(table) => write_made(alloc, &table, out, needed),
-        Err(fault) => tell_form(fault, profile),
+        Ok(table) => write_text(alloc, &table, out, needed),
+        Err(fault) => report_form(fault, profile),
     }
 }
 
+/// Writes what a file means as a table.
 fn write_meaning(
     alloc: Global,
     meaning: &Meaning<'_>,
@@ -94,7 +96,7 @@ fn write_meaning(
 {
     match meaning {
         Meaning::Tree(game) => write_form(alloc, game, strategies, out, needed, profile),
-        Meaning::Table(table) => write_made(alloc, table, out, needed),
+        Meaning::Table(table) => write_text(alloc, table, out, needed),
     }
 }
 
@@ -119,6 +121,6 @@ pub fn write_table(
     };
     match read_file(alloc, input) {
         Ok(meaning) => write_meaning(alloc, &meaning, strategies, out, needed, profile),
-        Err(refusal) => tell(refusal, fault),
+        Err(refusal) => report(refusal, fault),
     }
 }

@@ -25,7 +25,8 @@ SameFile (extensive g) (extensive h) = SameGame g h
 SameFile (strategic t) (strategic u) = SameTable t u
 SameFile _ _ = ⊥
 
--- of a game by its first-use numbers; a table has no numbers of sets or outcomes
+-- the canonical text: of a game by its first-use numbers; of a table its own, since it has no numbers
+-- of sets or outcomes
 abbrev pub canonical_text : GameFile → List ℕ
 canonical_text (extensive g) = game_text (canonical_game g)
 canonical_text (strategic t) = table_text t

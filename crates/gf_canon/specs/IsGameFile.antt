@@ -1,4 +1,4 @@
--- Which game files are games or tables, as all are that bytes mean.
+-- Which values of `GameFile` are games or tables; all that bytes mean are.
 use Rattle.gf_nfg.specs.Table.{IsTable}
 use Rattle.gf_tree.specs.IsGame.{IsGame}
 use Rattle.gf_canon.specs.GameFile.{GameFile}

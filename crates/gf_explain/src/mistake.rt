@@ -82,8 +82,8 @@ fn is_one(found: &[u8], byte: u8) -> bool {
     found.len() == 1 && found[0] == byte
 }
 
-/// Whether a text has a quotation mark that a reader takes for its end: behind it stands what
-/// separates tokens.
+/// Whether a text has a quotation mark that a person would take for its end: a blank, a line end, a
+/// brace or a comma follows it.
 fn has_escaped_end(raw: &[u8]) -> bool {
     for end in 2..raw.len() {
         if raw[end - 2] == b'\\'
@@ -118,8 +118,8 @@ fn joined_text<'a>(refusal: &Refusal<'a>) -> Option<Token<'a>> {
     }
 }
 
-/// What the text shows that a refused token is joined to. Only such a token can show that the text
-/// goes on too far.
+/// The mistake in the text that the refused token directly follows, if there is one: only there does a
+/// token show that a text ends in the wrong place.
 fn of_text_before(refusal: &Refusal<'_>) -> Option<Quote> {
     let text = joined_text(refusal)?;
     let (before, spelled) = refusal

@@ -1,8 +1,8 @@
 //! Bytes of a file as a terminal may show them.
 
-ghost use Rattle.std.specs.Prelude.{◌≡◌, IfOk, OnOk, false};
+ghost use Rattle.std.specs.Prelude.{◌≡◌, ◌++◌, ◌∷◌, [], IfOk, OnOk, false};
 ghost use Rattle.std.specs.String.{string_bytes};
-ghost use Rattle.gf_explain.specs.Place.{EndsLine};
+ghost use Rattle.gf_explain.specs.Place.{EndsLine, line_feed};
 ghost use Rattle.gf_explain.specs.Shown.{IsShown, is_obeyed, shown_character, shown_name};
 
 use std::alloc::{AllocError, Global};
@@ -55,7 +55,7 @@ impl ShownText {
     /// Ends a line.
     // No edit: `push_line` calls it and has one.
     pub fn end_line(&mut self) -> Result<(), AllocError>
-        ensures { OnOk result (EndsLine self.new) }
+        ensures { OnOk result (self.new ≡ self.old ++ line_feed ∷ []) }
     {
         self.text.push('\n')
     }

@@ -13,7 +13,7 @@ use Rattle.gf_token.specs.declared.form_fault.FormFault.TheVariants.{TooManyProf
 use Rattle.gf_form.specs.declared.forms.Strategies.{Strategies}
 use Rattle.gf_form.specs.declared.forms.Strategies.TheVariants.{Pure, Reduced}
 
--- as many players as a table is made for
+-- no more players than a table can have
 abbrev pub HasFewPlayers : Game → Type 0
 HasFewPlayers g = length g.players ≤ 4294967295
 

@@ -58,7 +58,8 @@ fn counted(prime: u64, number: u64) -> (u64, u64)
     (count, left)
 }
 
-/// Divides out the twos of a size, of which the denominator has this many.
+/// Divides a size and its denominator by two as often as both allow, but at most this often: they have
+/// no more twos in common.
 #[inline(always)]
 fn without_twos(count: u32, size: u64, den: u64) -> (u64, u64)
     requires { 0 < size }
@@ -69,7 +70,7 @@ fn without_twos(count: u32, size: u64, den: u64) -> (u64, u64)
     (size >> twos, den >> twos)
 }
 
-/// Divides out a prime as often as the size has it, and the denominator, which has it this often.
+/// The same by another prime.
 #[inline(always)]
 fn without(prime: u64, count: u64, size: u64, den: u64) -> (u64, u64)
     requires { IsPrime prime }

@@ -5,13 +5,13 @@ use Rattle.gf_run.specs.Streams.{Stream}
 use Rattle.gf_run.specs.Transfers.{IsWriteFault, IsWritten}
 use Rattle.gf_run.specs.declared.fault.RunFault.{RunFault}
 use Rattle.gf_jobs.specs.Performs.{without_cause}
-use Rattle.gf_jobs.specs.Reports.{IsTold}
+use Rattle.gf_jobs.specs.Reports.{IsSent}
 use Rattle.gf_jobs.specs.declared.explain.Failed.{Failed}
 
 -- a text was written whole, or not, and what became of this is dropped
 pub told : {W E S : Type 0} (writer : Stream S) (text : List ℕ) (old new : S) (r : Result W E)
     → OnOk r (IsWritten writer old new text) → OnErr r (IsWriteFault writer old new text)
-    → IsTold writer text old new
+    → IsSent writer text old new
 told writer text old new (Ok done) all part = inl all
 told writer text old new (Err fault) all part = inr part
 

@@ -8,8 +8,9 @@ use Rattle.gf_words.specs.declared.job.Input.{Input}
 use Rattle.gf_jobs.specs.declared.collections.file.CollectionFile.{CollectionFile}
 use Rattle.gf_jobs.specs.declared.opening.inputs.Unreplaced.{Unreplaced}
 
--- what opens inputs, and puts texts in the place of files: each holds for its state, what it gives,
--- and the state after it; for a file its name comes first, and for a text the text after that
+-- What opens inputs, and puts texts in the place of files. Each relation is between the state before,
+-- what is returned, and the state after; before what is returned come a file's name and, to replace
+-- it, the text.
 pub record Opener (I S : Type 0) : Type 1 where
   pub standard : I → S → I → Type 0
   pub file : I → List ℕ → Result S Error → I → Type 0

@@ -4,7 +4,9 @@ use Rattle.std.specs.Prelude.{Result, Ok, Err, IsOk, ⊤, true, false, codes, if
 use Rattle.std.specs.List.{flat_map}
 use Rattle.std.specs.String.{string_bytes}
 use Rattle.std.specs.declared.io.Error.{Error}
+use Rattle.gf_canon.specs.GameFile.{SameFile}
 use Rattle.gf_canon.specs.NamesAside.{IsTextBy}
+use Rattle.gf_canon.specs.SameBy.{SameBy}
 use Rattle.gf_token.specs.declared.names.Names.{Names}
 use Rattle.gf_form.specs.declared.forms.Strategies.{Strategies}
 use Rattle.gf_words.specs.declared.job.Input.{Input}
@@ -16,11 +18,11 @@ use Rattle.gf_run.specs.Faults.{IsRefusal, answer_status, is_of_second}
 use Rattle.gf_run.specs.Transfers.{IsNotRead, IsReadWhole}
 use Rattle.gf_jobs.specs.LedTo.{AreFilesOf}
 use Rattle.gf_jobs.specs.Opening.{Opener, Opens, OpensFile, OpensNamed, file_of}
-use Rattle.gf_jobs.specs.Reports.{Ends, IsReported, IsTold, IsToldOf, called, name_of}
-use Rattle.gf_run.specs.Run.{IsAnswerBy, Reads, RunsTwo, Writes}
+use Rattle.gf_jobs.specs.Reports.{Ends, IsReported, IsSent, IsNamedReport, called, name_of}
+use Rattle.gf_run.specs.Run.{Reads, RunsTwo, Writes}
 use Rattle.gf_jobs.specs.Lines.{ReadsHash, RunsLine, RunsOne}
 use Rattle.gf_run.specs.Streams.{Stream}
-use Rattle.gf_run.specs.Texts.{AreCanonical}
+use Rattle.gf_run.specs.Texts.{AreCanonical, IsAnswer, IsLine, IsLineAndMap}
 use Rattle.gf_jobs.specs.Lines.{after_name}
 use Rattle.gf_jobs.specs.Wrapped.{bytes_kept, kept_at_first, kept_reader, source_of}
 use Rattle.gf_jobs.specs.declared.collections.file.CollectionFile.{CollectionFile}
@@ -131,7 +133,8 @@ module _ {I S : Type 0} (opener : Opener I S) where
 
 -- ---- which files are the same game
 
--- this in the place of the output: while files are read, those that have a hash, in their order
+-- the same world with this in place of the output; while files are read for duplicates, that is the
+-- list of those that have a hash, in their order
 abbrev pub with_output : {I V W E : Type 0} → W → World I V E → World I W E
 with_output output a = record { inputs = a.inputs; output = output; errors = a.errors }
 
@@ -147,7 +150,7 @@ module _ {I S E : Type 0} (opener : Opener I S) (reader : Stream S) (errors : St
   abbrev pub RewritesNext : {W : Type 0} → CollectionFile → ℕ → World I W E → World I W E → Type 0
   RewritesNext file = Over opener explain
       (λ result s s' i i' o o'. (o' ≡ o) × Rewrites opener reader names file result s s' i i')
-      (Ends (IsToldOf errors (name_of file)) (λ done. 0)) file
+      (Ends (IsNamedReport errors (name_of file)) (λ done. 0)) file
 
   abbrev pub RewritesAll : {W : Type 0} → List CollectionFile → ℕ → World I W E → World I W E
       → Type 0
@@ -163,7 +166,7 @@ module _ {I S E : Type 0} (opener : Opener I S) (reader : Stream S) (errors : St
   abbrev pub HashesNext : CollectionFile → ℕ → World I (List HashedFile) E
       → World I (List HashedFile) E → Type 0
   HashesNext file = Over opener explain (Hashes (with_hash file))
-      (Ends (IsToldOf errors (name_of file)) (λ hash. 0)) file
+      (Ends (IsNamedReport errors (name_of file)) (λ hash. 0)) file
 
   -- it has one, but memory for it ran out, which was reported, and nothing was written
   abbrev pub IsOutOfMemory : {W : Type 0} → W → CollectionFile → ℕ → World I (List HashedFile) E
@@ -206,10 +209,10 @@ IsUnlisted paths fault = ⊥
 
 -- It was reported why no file is opened: a list could not be read, which is said after its name, and
 -- explained if `explain` is true; or memory ran out.
-abbrev pub IsToldOfPaths : {E : Type 0} → Stream E → Bool → RunFault → Paths → ℕ → E → E → Type 0
-IsToldOfPaths errors explain (RunFault.Read which) (Paths.List list end) =
-    IsToldOf errors (called (codes "-") list) (kept_at_first explain) (RunFault.Read which)
-IsToldOfPaths errors explain fault paths = IsReported errors [] None fault
+abbrev pub IsListReport : {E : Type 0} → Stream E → Bool → RunFault → Paths → ℕ → E → E → Type 0
+IsListReport errors explain (RunFault.Read which) (Paths.List list end) =
+    IsNamedReport errors (called (codes "-") list) (kept_at_first explain) (RunFault.Read which)
+IsListReport errors explain fault paths = IsReported errors [] None fault
 
 -- what is said of folders that have no game files: a line for each
 abbrev pub without_games : List (List ℕ) → List ℕ
@@ -223,6 +226,11 @@ ArePathsOpened {S = S} opener (Paths.List list end) i i' =
 ArePathsOpened opener paths i i' = i' ≡ i
 
 -- ---- by the job
+
+-- the answer about two files: with their renumbering if `map` is true, otherwise by names
+abbrev pub IsAnswerBy : Bool → Names → Bool → List ℕ → List ℕ → List ℕ → Type 0
+IsAnswerBy true names = IsAnswer SameFile IsLineAndMap
+IsAnswerBy false names = IsAnswer (SameBy names) IsLine
 
 -- for what opens inputs, for the inputs, for standard output and for standard error; `explain` says
 -- whether a fault is explained
@@ -271,7 +279,7 @@ module _ {I S W E : Type 0} (opener : Opener I S) (reader : Stream S) (writer : 
   abbrev pub WritesNext : FileLine → CollectionFile → ℕ → World I W E → World I W E → Type 0
   WritesNext line file = Over opener explain (WritesLine line file)
       (λ result kept status e e'. (result ≢ Err RunFault.Write)
-      × Ends (IsToldOf errors (name_of file)) answer_status result kept status e e') file
+      × Ends (IsNamedReport errors (name_of file)) answer_status result kept status e e') file
 
   -- the writer failed, which was reported
   abbrev pub IsCutOff : FileLine → CollectionFile → ℕ → World I W E → World I W E → Type 0
@@ -302,12 +310,12 @@ module _ {I S W E : Type 0} (opener : Opener I S) (reader : Stream S) (writer : 
     found : (files : List CollectionFile) (folders : List (List ℕ)) (mid : World I W E)
         → ArePathsOpened opener paths a.inputs mid.inputs → mid.output ≡ a.output
         → AreFilesOf (repeats_of task) paths files folders
-        → IsTold errors (without_games folders) a.errors mid.errors
+        → IsSent errors (without_games folders) a.errors mid.errors
         → Does task files status mid b → PerformsAll task paths status a b
     -- they are not, or memory for that report ran out, which was reported
     unlisted : (fault : RunFault) → IsUnlisted paths fault
         → ArePathsOpened opener paths a.inputs b.inputs → b.output ≡ a.output
-        → IsToldOfPaths errors explain fault paths status a.errors b.errors
+        → IsListReport errors explain fault paths status a.errors b.errors
         → PerformsAll task paths status a b
 
   abbrev pub Performs : Job → ℕ → World I W E → World I W E → Type 0

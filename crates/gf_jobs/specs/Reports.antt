@@ -44,29 +44,29 @@ IsLineOr line Explains (Some bytes) text = (text ≡ line) ⊎ Explains bytes te
 -- for standard error
 module _ {E : Type 0} (writer : Stream E) where
   -- a text was written whole; or a prefix of it, and then the writer failed
-  abbrev pub IsTold : List ℕ → E → E → Type 0
-  IsTold text old new = IsWritten writer old new text ⊎ IsWriteFault writer old new text
+  abbrev pub IsSent : List ℕ → E → E → Type 0
+  IsSent text old new = IsWritten writer old new text ⊎ IsWriteFault writer old new text
 
   -- a fault of the file with this name was reported, and this is its status
   abbrev pub IsReported : List ℕ → Option (List ℕ) → RunFault → ℕ → E → E → Type 0
   IsReported name kept fault status old new = (status ≡ status_of fault)
       × ((text : List ℕ) × IsLineOr (fault_line fault) (IsExplained fault name) kept text
-      × IsTold text old new)
+      × IsSent text old new)
 
   -- the same of one of several files, always after its name; or memory for the text ran out
-  abbrev pub IsToldOf : List ℕ → Option (List ℕ) → RunFault → ℕ → E → E → Type 0
-  IsToldOf name kept fault status old new = ((status ≡ status_of fault) × ((text : List ℕ)
+  abbrev pub IsNamedReport : List ℕ → Option (List ℕ) → RunFault → ℕ → E → E → Type 0
+  IsNamedReport name kept fault status old new = ((status ≡ status_of fault) × ((text : List ℕ)
       × IsLineOr (after_name name (fault_line fault)) (IsNamedExplanation fault name) kept text
-      × IsTold text old new))
-      ⊎ ((status ≡ status_of RunFault.Memory) × IsTold (fault_line RunFault.Memory) old new)
+      × IsSent text old new))
+      ⊎ ((status ≡ status_of RunFault.Memory) × IsSent (fault_line RunFault.Memory) old new)
 
 -- How a run ends by its result: with the status of its answer, and nothing is reported; or with
--- that of its fault, of which `Tells` says how it is reported.
+-- that of its fault, of which `Reports` says how it is reported.
 abbrev pub Ends : {A E : Type 0} → (Option (List ℕ) → RunFault → ℕ → E → E → Type 0) → (A → ℕ)
     → Result A RunFault → Option (List ℕ) → ℕ → E → E → Type 0
-Ends Tells status_of_answer (Ok answer) kept status old new =
+Ends Reports status_of_answer (Ok answer) kept status old new =
     (status ≡ status_of_answer answer) × (new ≡ old)
-Ends Tells status_of_answer (Err fault) kept status old new = Tells kept fault status old new
+Ends Reports status_of_answer (Err fault) kept status old new = Reports kept fault status old new
 
 -- for standard output and for standard error
 module _ {W E : Type 0} (writer : Stream W) (errors : Stream E) where
@@ -75,9 +75,9 @@ module _ {W E : Type 0} (writer : Stream W) (errors : Stream E) where
   abbrev pub IsAnswered : WordsFault → ℕ → W → W → E → E → Type 0
   IsAnswered (WordsFault.Help text) status o o' e e' =
       ((status ≡ 0) × (e' ≡ e) × IsWritten writer o o' (string_bytes text))
-      ⊎ ((status ≡ 4) × IsTold errors (fault_line RunFault.Write) e e'
+      ⊎ ((status ≡ 4) × IsSent errors (fault_line RunFault.Write) e e'
       × IsWriteFault writer o o' (string_bytes text))
   IsAnswered (WordsFault.Usage text) status o o' e e' =
-      (status ≡ 3) × (o' ≡ o) × IsTold errors (string_bytes text) e e'
+      (status ≡ 3) × (o' ≡ o) × IsSent errors (string_bytes text) e e'
   IsAnswered WordsFault.Memory status o o' e e' =
-      (status ≡ 5) × (o' ≡ o) × IsTold errors (fault_line RunFault.Memory) e e'
+      (status ≡ 5) × (o' ≡ o) × IsSent errors (fault_line RunFault.Memory) e e'

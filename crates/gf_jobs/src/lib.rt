@@ -16,7 +16,7 @@ pub use collections::line::{FileLine, run_line};
 pub use collections::paths::{FoundFiles, files_at};
 pub use collections::progress::{Progress, Shown};
 pub use explain::{Cause, Failed};
-pub use jobs::ending::{answer, tell};
+pub use jobs::ending::{answer, report};
 pub use jobs::job::perform;
 pub use jobs::session::Session;
 pub use opening::inputs::{Inputs, Unreplaced};

@@ -9,7 +9,11 @@ use Rattle.gf_nfg.specs.Table.{Table, rows}
 abbrev pub labels : Table → List (List ℕ)
 labels t = t.title ∷ t.comment ∷ (t.players ++ flat_map (λ names. names) t.strategies)
 
+-- each is the spelling of a label
+abbrev pub AreSpellings : List (List ℕ) → Type 0
+AreSpellings labels = AllByRecursion IsLabel labels
+
 -- its labels are spellings of labels, and its payoffs are fractions
 pub record IsSpellable (t : Table) : Type 0 where
-  pub labels_spelled : AllByRecursion IsLabel (labels t)
+  pub labels_spelled : AreSpellings (labels t)
   pub payoffs_are_fractions : AllByRecursion (λ row. AllByRecursion IsFraction row) (rows t)

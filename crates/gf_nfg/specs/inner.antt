@@ -8,6 +8,7 @@ pub mod Machine
 pub mod Meaning
 pub mod PayoffLists
 pub mod ReaderState
+pub mod TableParts
 pub mod TextParts
 pub mod TextRest
 pub mod Told

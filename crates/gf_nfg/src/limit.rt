@@ -23,8 +23,8 @@ impl ProfileCount {
         ProfileCount { count: 1 }
     }
 
-    /// The number of profiles with one more player, who has this many strategies; `None` above the
-    /// limit.
+    /// The number of profiles with one more player, who has this many strategies, at least one; `None`
+    /// above the limit.
     pub fn times(self, strategies: usize) -> Option<ProfileCount>
         requires { 0 < strategies }
         ensures { MatchOption result (profile_limit < self.count * strategies)

@@ -12,7 +12,7 @@ ghost use Rattle.gf_nfg.specs.Profiles.{product};
 ghost use Rattle.gf_nfg.specs.Spellable.{IsSpellable};
 ghost use Rattle.gf_nfg.specs.Table.{IsTable, PaysAt, rows};
 ghost use Rattle.gf_nfg.specs.TableOfParts.{IsTableOf};
-ghost use Rattle.gf_nfg.specs.TableParts.{AreParts, IsHeld, table_with};
+ghost use Rattle.gf_nfg.specs.inner.TableParts.{AreParts, IsHeld, table_with};
 
 use crate::table::frame::Frame;
 use crate::table::labels::Labels;
@@ -45,7 +45,7 @@ pub struct Table {
 
 impl Model for Table {
     ghost use Rattle.gf_nfg.specs.Table.{Table};
-    ghost use Rattle.gf_nfg.specs.TableParts.{IsHeld, table_with};
+    ghost use Rattle.gf_nfg.specs.inner.TableParts.{IsHeld, table_with};
 
     ghost Value = { Table };
 

@@ -1,15 +1,13 @@
 -- What a run does: it reads its inputs whole, and then writes the text that answers their bytes.
-use Rattle.std.specs.Prelude.{◌≡◌, ◌⊎◌, Bool, true, false, ℕ, List, Result, Ok, Err, ⊤}
-use Rattle.gf_canon.specs.GameFile.{SameFile}
+use Rattle.std.specs.Prelude.{◌≡◌, ◌⊎◌, Bool, ℕ, List, Result, Ok, Err, ⊤}
 use Rattle.gf_canon.specs.NamesAside.{IsTextBy}
-use Rattle.gf_canon.specs.SameBy.{SameBy}
 use Rattle.gf_canon.specs.declared.kind.FileKind.{FileKind}
 use Rattle.gf_token.specs.declared.names.Names.{Names}
 use Rattle.gf_form.specs.declared.forms.Strategies.{Strategies}
 use Rattle.gf_run.specs.Faults.{IsFaultOfBytes, IsFaultOfFiles, IsRefusal}
 use Rattle.gf_run.specs.Transfers.{IsNotRead, IsReadWhole, IsWriteFault, IsWritten}
 use Rattle.gf_run.specs.Streams.{Stream}
-use Rattle.gf_run.specs.Texts.{IsAnswer, IsFormText, IsKindLine, IsLine, IsLineAndMap}
+use Rattle.gf_run.specs.Texts.{IsFormText, IsKindLine}
 use Rattle.gf_run.specs.declared.fault.RunFault.{RunFault}
 use Rattle.gf_run.specs.declared.fault.Which.{Which}
 
@@ -61,12 +59,7 @@ module _ {R W : Type 0} (reader : Stream R) (writer : Stream W) where
 
 -- ---- over two inputs
 
--- the answer about two files: with their renumbering if it is asked for, or by names
-abbrev pub IsAnswerBy : Bool → Names → Bool → List ℕ → List ℕ → List ℕ → Type 0
-IsAnswerBy true names = IsAnswer SameFile IsLineAndMap
-IsAnswerBy false names = IsAnswer (SameBy names) IsLine
-
-module _ {R S W : Type 0} (first : Stream R) (second : Stream S) (writer : Stream W) where
+module _ {R S : Type 0} (first : Stream R) (second : Stream S) where
   -- both were read whole
   abbrev pub AreReadWhole : R × S → R × S → List ℕ × List ℕ → Type 0
   AreReadWhole old new bytes =
@@ -79,8 +72,8 @@ module _ {R S W : Type 0} (first : Stream R) (second : Stream S) (writer : Strea
       × IsNotRead second Which.Second fault old.1 new.1)
 
   -- `run_same_by`, `run_same` and `run_same_map`: this answer about their bytes was written
-  abbrev pub RunsTwo : (Bool → List ℕ → List ℕ → List ℕ → Type 0) → Result Bool RunFault
-      → R → R → S → S → W → W → Type 0
-  RunsTwo Answers result a a' b b' o o' = Reads AreReadWhole AreNotRead
+  abbrev pub RunsTwo : {W : Type 0} → Stream W → (Bool → List ℕ → List ℕ → List ℕ → Type 0)
+      → Result Bool RunFault → R → R → S → S → W → W → Type 0
+  RunsTwo writer Answers result a a' b b' o o' = Reads AreReadWhole AreNotRead
       (λ bytes result. Writes writer (λ same. Answers same bytes.0 bytes.1)
       (IsFaultOfFiles bytes.0 bytes.1) result o o') (o' ≡ o) result (a, b) (a', b')

@@ -33,7 +33,7 @@ pub enum RunFault {
     /// The output could not be written, or a text could not take the place of a file.
     #[error("the output could not be written")]
     Write,
-    /// A game has no table. If memory runs out, a run returns `Memory` below instead.
+    /// A game has no table. If memory runs out for it, a run returns `RunFault::Memory` instead.
     #[error("the game has no table")]
     Form(FormFault),
     /// Memory ran out.

@@ -9,8 +9,8 @@ mod streams;
 mod texts;
 
 pub use fault::{RunFault, Which, WriteFault, answer_status, is_of_second, status};
-pub use run::{run_canon, run_canon_by, run_check, run_form, run_table, run_table_reduced};
-pub use run_of_two::{run_comparison, run_same, run_same_by, run_same_map};
+pub use run::{run_canon, run_canon_by, run_check, run_table, run_table_reduced};
+pub use run_of_two::{run_same, run_same_by, run_same_map};
 pub use streams::counted::Counted;
 pub use streams::last_error::LastError;
 pub use streams::sink::{Sink, push_all};

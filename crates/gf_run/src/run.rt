@@ -15,8 +15,8 @@ use std::alloc::Global;
 /// Writes the canonical text of the file that it reads, with names or without.
 ///
 /// The input is read whole before it is judged. It is judged whole, and the memory that the text
-/// needs is reserved, before the first byte is written. So a prefix of the text has been written
-/// only after `Write`; before any other fault, nothing is asked of the output.
+/// needs is reserved, before the first byte is written. So after `Write` a prefix of the text has
+/// been written; after any other fault, nothing was asked of the output.
 ///
 /// # Errors
 ///
@@ -79,12 +79,7 @@ pub fn run_check<R: Source, W: Sink>(
 }
 
 /// Writes the form of the tree that it reads, by these strategies; a table as it is.
-///
-/// # Errors
-///
-/// Those of `run_table` or of `run_table_reduced`.
-// No edit: `run_table_reduced` calls it and has one.
-pub fn run_form<R: Source, W: Sink>(
+fn run_form<R: Source, W: Sink>(
     alloc: Global,
     input: &mut R,
     strategies: Strategies,

@@ -1,47 +1,41 @@
 //! The runs that compare two files, over inputs that are open.
 
+ghost use Rattle.std.specs.Prelude.{IfErr, IfOk};
 ghost use Rattle.gf_canon.specs.GameFile.{SameFile};
 ghost use Rattle.gf_canon.specs.SameBy.{SameBy};
-ghost use Rattle.gf_run.specs.Run.{IsAnswerBy, RunsTwo};
+ghost use Rattle.gf_run.specs.Run.{AreNotRead, AreReadWhole, RunsTwo};
 ghost use Rattle.gf_run.specs.Texts.{IsAnswer, IsLine, IsLineAndMap};
 
 use crate::fault::{RunFault, Which};
 use crate::streams::sink::Sink;
 use crate::streams::source::{Source, load};
 use crate::texts::answer::write_answer;
-use crate::texts::comparison::comparison;
+use crate::texts::comparison::{compare, compare_with_map};
 use gf_canon::Names;
 use std::alloc::Global;
 
-/// Returns whether the two files that it reads mean the same, and writes it: with their renumbering
-/// if `map` is true, otherwise by `names`.
-///
-/// # Errors
-///
-/// Those of `run_same_by`.
-pub fn run_comparison<R: Source, S: Source, W: Sink>(
+/// Reads two files whole, the first and then the second.
+fn load_both<R: Source, S: Source>(
     alloc: Global,
     a: &mut R,
     b: &mut S,
-    map: bool,
-    names: Names,
-    output: &mut W,
-) -> Result<bool, RunFault>
-    ensures { RunsTwo R.reader S.reader W.writer (IsAnswerBy map names) result a.old a.new b.old b.new
-        output.old output.new }
+) -> Result<(Vec<u8>, Vec<u8>), RunFault>
+    ensures whole { IfOk result (λ files. AreReadWhole R.reader S.reader (a.old, b.old) (a.new, b.new)
+        (files.0.items, files.1.items)) }
+    ensures part { IfErr result (λ fault. AreNotRead R.reader S.reader fault (a.old, b.old)
+        (a.new, b.new)) }
 {
     let first = load(alloc, a, Which::First)?;
     let second = load(alloc, b, Which::Second)?;
-    let answer = comparison(alloc, first.as_slice(), second.as_slice(), map, names);
-    write_answer(answer, output)
+    Ok((first, second))
 }
 
 /// Returns whether the two files that it reads mean the same, with names or without, as `same_by`
 /// says; writes `same` or `different` and a line feed.
 ///
 /// The first input is read whole, and then the second; only then is the first judged, and then the
-/// second. The text is made whole before its first byte is written. So a prefix of it has been
-/// written only after `Write`; before any other fault, nothing is asked of the output.
+/// second. The text is made whole before its first byte is written. So after `Write` a prefix of
+/// it has been written; after any other fault, nothing was asked of the output.
 ///
 /// # Errors
 ///
@@ -52,7 +46,6 @@ pub fn run_comparison<R: Source, S: Source, W: Sink>(
 ///   row. `failures` has counted it. If the first fails, the second is not read.
 /// - `Write`: the writer failed in this way, or took nothing, which `failures` has counted too.
 /// - `Memory`: memory ran out while an input was read, or although both files are accepted.
-// No edit: it passes on `run_comparison`.
 pub fn run_same_by<R: Source, S: Source, W: Sink>(
     alloc: Global,
     a: &mut R,
@@ -63,7 +56,9 @@ pub fn run_same_by<R: Source, S: Source, W: Sink>(
     ensures { RunsTwo R.reader S.reader W.writer (IsAnswer (SameBy names) IsLine) result
         a.old a.new b.old b.new output.old output.new }
 {
-    run_comparison(alloc, a, b, false, names, output)
+    let (first, second) = load_both(alloc, a, b)?;
+    let answer = compare(alloc, first.as_slice(), second.as_slice(), names);
+    write_answer(answer, output)
 }
 
 /// Returns whether the two files that it reads mean the same, as `same` says; writes `same` or
@@ -102,7 +97,6 @@ pub fn run_same<R: Source, S: Source, W: Sink>(
 /// # Errors
 ///
 /// Those of `run_same_by`.
-// No edit: it passes on `run_comparison`.
 pub fn run_same_map<R: Source, S: Source, W: Sink>(
     alloc: Global,
     a: &mut R,
@@ -112,5 +106,7 @@ pub fn run_same_map<R: Source, S: Source, W: Sink>(
     ensures { RunsTwo R.reader S.reader W.writer (IsAnswer SameFile IsLineAndMap) result
         a.old a.new b.old b.new output.old output.new }
 {
-    run_comparison(alloc, a, b, true, Names::Kept, output)
+    let (first, second) = load_both(alloc, a, b)?;
+    let mapped = compare_with_map(alloc, first.as_slice(), second.as_slice());
+    write_answer(mapped, output)
 }

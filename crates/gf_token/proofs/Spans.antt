@@ -11,7 +11,15 @@ use Rattle.gf_token.specs.Slices.{StandsIn}
 stands_after : (front bytes : List ℕ) (l : Lexeme) → BeginsWith (length front) bytes l
     → StandsIn (front ++ bytes) l
 stands_after front bytes l first =
-    grind (arith, append_assoc front first.gap (spelling l.token ++ first.rest), length-append front first.gap, length-append (front ++ first.gap) (spelling l.token ++ first.rest), length-append (spelling l.token) first.rest, drop-append_seam (front ++ first.gap) ((spelling l.token) ++ first.rest), take-append_seam (spelling l.token) first.rest)
+    grind (
+      arith,
+      append_assoc front first.gap (spelling l.token ++ first.rest),
+      length-append front first.gap,
+      length-append (front ++ first.gap) (spelling l.token ++ first.rest),
+      length-append (spelling l.token) first.rest,
+      drop-append_seam (front ++ first.gap) ((spelling l.token) ++ first.rest),
+      take-append_seam (spelling l.token) first.rest,
+    )
 
 -- what goes on with a token goes on with what is spelled
 goes_on_some : (t : Token) (before after : List Lexeme) (l : Lexeme) (A : Type 0)

@@ -1,6 +1,6 @@
 //! Whether names count.
 
-ghost use Rattle.std.specs.Prelude.{◌≡◌};
+ghost use Rattle.std.specs.Prelude.{◌≡◌, ◌↔◌, IsTrue};
 ghost use Rattle.gf_token.specs.Label.{label_of};
 ghost use Rattle.gf_token.specs.NameBy.{name_by};
 
@@ -25,5 +25,14 @@ impl Names {
             Names::Kept => name,
             Names::Aside => Label::new(&[]).unwrap(),
         }
+    }
+
+    /// Whether two names are the same, as far as they count.
+    #[inline(always)]
+    pub fn agree(self, a: Label<'_>, b: Label<'_>) -> bool
+        ensures { IsTrue result
+            ↔ (name_by self (label_of a.entry) ≡ name_by self (label_of b.entry)) }
+    {
+        self == Names::Aside || a.raw() == b.raw()
     }
 }

@@ -7,7 +7,7 @@ use Rattle.gf_tree.specs.Description.{InformationSet, Outcome, SetKey, set_of}
 use Rattle.gf_tree.specs.FileTree.{FileNode, Use}
 use Rattle.gf_tree.specs.FiniteMap.{Described}
 use Rattle.gf_tree.specs.Game.{Game}
-use Rattle.gf_tree.specs.KeptNodes.{Kept}
+use Rattle.gf_tree.specs.KeptNode.{Kept}
 use Rattle.gf_tree.specs.KnownSets.{known_of}
 use Rattle.gf_tree.specs.declared.reader.receive.ToldHeading.{ToldHeading}
 use Rattle.gf_tree.specs.declared.game.numbered_node.NumberedNode.{NumberedNode}
@@ -70,7 +70,8 @@ told_outcome numbering outcomes position described =
     option_map (λ o. use_with (outcome_key numbering position o.key) described o.description)
     (at_position outcomes position)
 
--- If this many sets and outcomes were used before it: what is the next one is described.
+-- The node as it is told after nodes that use this many sets and outcomes: it describes its set or its
+-- outcome if that is the next one.
 abbrev pub told_node : Numbering → List (Described SetKey InformationSet)
     → List (Described ℕ Outcome) → ℕ → ℕ → Kept → Told
 told_node numbering sets outcomes known_sets known_outcomes n = record {

@@ -1,9 +1,11 @@
 -- Definitions that only proofs and private contracts use.
 pub mod AddsUp
 pub mod FoundSet
+pub mod GameCode
 pub mod GameParts
+pub mod GrowsAgain
 pub mod Hashers
-pub mod KnownOutcomes
+pub mod KeptNodes
 pub mod Machine
 pub mod Probability
 pub mod ReadGame

@@ -63,9 +63,9 @@ pub struct Game<'a> {
 impl<'a> Model for Game<'a> {
     ghost use Rattle.std.specs.Prelude.{map};
     ghost use Rattle.gf_tree.specs.Game.{Game};
-    ghost use Rattle.gf_tree.specs.GameCode.{game_code};
+    ghost use Rattle.gf_tree.specs.inner.GameCode.{game_code};
     ghost use Rattle.gf_tree.specs.inner.GameParts.{IsHeld, game_with, parts_of};
-    ghost use Rattle.gf_tree.specs.KeptNodes.{kept_of};
+    ghost use Rattle.gf_tree.specs.inner.KeptNodes.{kept_of};
 
     ghost Value = { Game };
 

@@ -10,8 +10,8 @@ use indexmap::IndexMap;
 use std::alloc::{AllocError, Global};
 use std::hash::{BuildHasher, DefaultHasher, FoldHasher, Hash, Hasher};
 
-/// A map of this many keys gets hashers of its own before it gets more. Among fewer keys, none takes
-/// long to find, whatever their hashes are.
+/// A map with this many keys gets the hashers of its input before it gets another key. Among fewer
+/// keys, none takes long to find, whatever their hashes are.
 const FEW_KEYS: usize = 64;
 
 /// The first bit of a hash that `indexmap` takes for the tag of a key, and not for its place.

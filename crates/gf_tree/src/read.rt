@@ -56,6 +56,7 @@ pub fn read_efg<'a>(alloc: Global, input: &'a [u8]) -> Result<Game<'a>, Fault>
 
 /// Reads an extensive file from its bytes, and tells its heading and its nodes to a receiver: by
 /// first-use numbers, with each set and each outcome described at its first use. No game is built.
+/// The caller has to ensure that the receiver has been told nothing.
 ///
 /// # Errors
 ///

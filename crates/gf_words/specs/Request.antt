@@ -116,12 +116,6 @@ IsNamed name word = bytes_eq name word ≡ true
 
 -- the job of the command of this name
 abbrev pub IsJobOf : Text → List Row → Job → Type 0
-IsJobOf name rows (Job.Canon read names) =
-    (list_any (bytes_eq name) other_commands ≡ false) × IsCanonOf rows (Job.Canon read names)
-IsJobOf name rows (Job.CheckCanon files names) =
-    (list_any (bytes_eq name) other_commands ≡ false) × IsCanonOf rows (Job.CheckCanon files names)
-IsJobOf name rows (Job.WriteCanon files names) =
-    (list_any (bytes_eq name) other_commands ≡ false) × IsCanonOf rows (Job.WriteCanon files names)
 IsJobOf name rows (Job.Check read) =
     IsNamed name (codes "check") × IsCheckOf rows (Job.Check read)
 IsJobOf name rows (Job.CheckAll files) =
@@ -134,6 +128,8 @@ IsJobOf name rows (Job.Hash files names end) = IsNamed name (codes "hash")
     × ArePathsOf rows files × (names ≡ names_of rows) × (end ≡ end_by (codes "zero") rows)
 IsJobOf name rows (Job.Duplicates files names end) = IsNamed name (codes "duplicates")
     × ArePathsOf rows files × (names ≡ names_of rows) × (end ≡ end_by (codes "zero") rows)
+IsJobOf name rows job =
+    (list_any (bytes_eq name) other_commands ≡ false) × IsCanonOf rows job
 
 abbrev pub IsRequestBy : Text → List Row → Request → Type 0
 IsRequestBy name rows request =

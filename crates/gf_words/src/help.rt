@@ -120,12 +120,13 @@ Examples:
 
 pub const TABLE: &str = "Write the strategic form of a game";
 
-pub const REDUCED: &str = "Leave out the choices that cannot matter";
+pub const REDUCED: &str = "Leave out choices at sets that the player has ruled out";
 
 pub const AFTER_TABLE: &str = "\
 Writes a tree as a strategic file in canonical text. A strategy is an action at
-each information set of its player, in order of first use, such as 1-2. Each
-profile of strategies has its exact expected payoffs. A strategic file is
+each information set of its player, in order of first use; its label has their
+numbers, counted from 1, such as 1-2, and is empty if the player has no set.
+Each profile of strategies has its exact expected payoffs. A strategic file is
 written as canon writes it. Every file that canon refuses is refused.
 
 A tree with more than 1,048,576 profiles has no table, and standard error says
@@ -220,7 +221,7 @@ follows for each outcome.
 
 With --no-names, the title, the comment, and the names of nodes, information
 sets and outcomes do not count. The labels of players, actions and strategies
-do.
+do. It cannot be given with --map.
 
 Example:
   gamefile same --map old.efg new.efg";

@@ -11,4 +11,4 @@ mod words;
 
 pub use fault::WordsFault;
 pub use job::{Input, Job, LineEnd, Paths, Request};
-pub use words::{parse_request, parse_words};
+pub use words::{is_game_file, parse_request, parse_words};

@@ -12,17 +12,23 @@ use clap::Error;
 use clap::error::ErrorKind;
 use std::alloc::{AllocError, Global};
 
+/// Whether a name ends in `.efg` or `.nfg`, in upper or lower case.
+// No clause: it decides only which names are taken for those of games, as tests show.
+pub fn is_game_file(name: &str) -> bool {
+    let bytes = name.as_bytes();
+    let end = &bytes[bytes.len().saturating_sub(4)..];
+    end.eq_ignore_ascii_case(b".efg") || end.eq_ignore_ascii_case(b".nfg")
+}
+
 /// Whether a word that is not a command looks like the name of a game file. A word that a terminal
 /// may not show as it is does not.
 fn looks_like_file(word: &str) -> bool {
-    let bytes = word.as_bytes();
-    for byte in bytes {
+    for byte in word.as_bytes() {
         if !byte.is_ascii_graphic() {
             return false;
         }
     }
-    let end = &bytes[bytes.len().saturating_sub(4)..];
-    word == "-" || end.eq_ignore_ascii_case(b".efg") || end.eq_ignore_ascii_case(b".nfg")
+    word == "-" || is_game_file(word)
 }
 
 /// Appends the command that was perhaps meant, if the first word names a file instead.

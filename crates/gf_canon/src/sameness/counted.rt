@@ -1,15 +1,13 @@
 //! What counts of a heading and of a node, and when two are the same.
 
 ghost use Rattle.std.specs.Prelude.{◌≡◌, ◌↔◌, IsTrue, option_map};
-ghost use Rattle.gf_token.specs.Label.{label_of};
-ghost use Rattle.gf_token.specs.NameBy.{name_by};
 ghost use Rattle.gf_tree.specs.FileNodeOf.{described_outcome, described_set, file_node_of};
 ghost use Rattle.gf_tree.specs.FileNodeOf.{outcome_use_of, set_use_of};
 ghost use Rattle.gf_tree.specs.Told.{heading_of, told_of};
 ghost use Rattle.gf_tree.specs.Unnamed.{use_by};
 ghost use Rattle.gf_canon.specs.inner.NamedBy.{heading_by, node_by, outcome_by, set_by};
 
-use gf_token::{Label, Names};
+use gf_token::Names;
 use gf_tree::{
     FileNode, NumberedNode, OutcomeDescription, OutcomeUse, SetDescription, SetUse, ToldHeading,
     same_actions,
@@ -40,15 +38,6 @@ pub(crate) fn counted_node<'n, 'a>(node: FileNode<'n, 'a>, names: Names) -> File
     }
 }
 
-/// Whether two names are the same, as far as they count.
-#[inline(always)]
-fn same_name(a: Label<'_>, b: Label<'_>, names: Names) -> bool
-    ensures { IsTrue result
-        ↔ (name_by names (label_of a.entry) ≡ name_by names (label_of b.entry)) }
-{
-    names == Names::Aside || a.raw() == b.raw()
-}
-
 /// Whether two descriptions of sets are the same, or both are absent.
 #[inline(always)]
 fn same_set_description(
@@ -60,9 +49,7 @@ fn same_set_description(
         ≡ option_map (set_by names) (option_map described_set b.entry)) }
 {
     match (a, b) {
-        (Some(a), Some(b)) => {
-            same_name(a.name, b.name, names) && same_actions(a.actions, b.actions)
-        }
+        (Some(a), Some(b)) => { names.agree(a.name, b.name) && same_actions(a.actions, b.actions) }
         (None, None) => true,
         _ => false,
     }
@@ -80,7 +67,7 @@ fn same_outcome_description(
         ≡ option_map (outcome_by names) (option_map described_outcome b.entry)) }
 {
     match (a, b) {
-        (Some(a), Some(b)) => same_name(a.name, b.name, names) && a.payoffs == b.payoffs,
+        (Some(a), Some(b)) => names.agree(a.name, b.name) && a.payoffs == b.payoffs,
         (None, None) => true,
         _ => false,
     }
@@ -127,7 +114,7 @@ fn same_parts(a: &FileNode<'_, '_>, b: &FileNode<'_, '_>, names: Names) -> bool
     ensures { IsTrue result
         ↔ (node_by names (file_node_of a.now) ≡ node_by names (file_node_of b.now)) }
 {
-    same_name(a.name, b.name, names)
+    names.agree(a.name, b.name)
         && same_set(a.set, b.set, names)
         && same_outcome(a.outcome, b.outcome, names)
 }

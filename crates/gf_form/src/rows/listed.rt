@@ -17,9 +17,9 @@ ghost use Rattle.gf_form.specs.Strategies.{choices_by};
 ghost use Rattle.gf_form.specs.declared.rows.paths.Path.{Path};
 
 use crate::rows::digits::Digits;
+use crate::rows::paid_nodes::paid_sums;
 use crate::rows::paths::Path;
 use crate::rows::share::{Share, payoff_at, share_of};
-use crate::rows::shares::paid_sums;
 use crate::rows::sums::{combined, least_common_multiple};
 use crate::rows::terms::{Head, LARGEST, Scaled, Terms};
 use crate::values::payoffs::Payoffs;

@@ -76,10 +76,10 @@ impl Terms {
         ensures order { IfOk result AreInOrder }
     {
         let free = count_near(&self.demands, slowest.step, 0);
-        let mut first = Terms::list(spare, self.players);
+        let mut first = Terms::reused(spare, self.players);
         first.clear(self.den);
         first.push_part(self, 0, free, 0)?;
-        let mut list = Terms::list(spare, self.players);
+        let mut list = Terms::reused(spare, self.players);
         list.clear(self.den);
         list.push_sums(&first, faster, choices / slowest.actions.max(1), 0, spare)?;
         spare.push(first)?;
@@ -131,7 +131,7 @@ impl Terms {
             (AreAddedUp (slowest ∷ faster.now) raised from.now self.old self.new) }
         ensures alike { AreAlike self.new self.old }
     {
-        let mut level = Terms::list(spare, from.players);
+        let mut level = Terms::reused(spare, from.players);
         let mut chosen = Chosen::none();
         for before in 0..slowest.actions {
             let action = u64::from(before) + 1;

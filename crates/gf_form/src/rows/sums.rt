@@ -31,7 +31,8 @@ const UNKNOWN: Scale = Scale {
 };
 
 /// The least denominator that serves both; `None` if it is too large. The denominator of `a / b` in
-/// lowest terms is the factor by which `a` has to be multiplied for it.
+/// lowest terms is the factor by which `a` has to be multiplied for it. Where a denominator is 0, the
+/// result means nothing: `factor` refuses it.
 #[inline]
 pub(crate) fn least_common_multiple(a: u128, b: u128) -> Option<u128> {
     if b == 1 || a == b || a.checked_rem(b)? == 0 {
@@ -143,25 +144,18 @@ fn weighted(a: i128, by_a: u128, b: i128, by_b: u128) -> Option<i128>
     Some(sum)
 }
 
-/// The sum of two numbers, each times its factor, quick if both factors are 1; `None` if it does
-/// not fit.
-#[inline(always)]
-fn summed(a: i128, by_a: u128, b: i128, by_b: u128) -> Option<i128>
-    ensures { IfSome result (λ sum. sum ≡ a *ℤ pos by_a +ℤ b *ℤ pos by_b) }
-{
-    if by_a == 1 && by_b == 1 {
-        return a.checked_add(b);
-    }
-    weighted(a, by_a, b, by_b)
-}
-
-/// The sum of two numbers, each times its factor; `None` if it is out of bounds.
+/// The sum of two numbers, each times its factor, quick if both factors are 1; `None` if it is out of
+/// bounds.
 #[inline(always)]
 pub(crate) fn combined(a: i128, by_a: u128, b: i128, by_b: u128) -> Option<i128>
     ensures sum { IfSome result (λ sum. sum ≡ a *ℤ pos by_a +ℤ b *ℤ pos by_b) }
     ensures within { IfSome result (λ sum. IsWithin sum) }
 {
-    let sum = summed(a, by_a, b, by_b)?;
+    let sum = if by_a == 1 && by_b == 1 {
+        a.checked_add(b)?
+    } else {
+        weighted(a, by_a, b, by_b)?
+    };
     if sum == i128::MIN {
         return None;
     }

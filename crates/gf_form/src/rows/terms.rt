@@ -76,7 +76,7 @@ impl Terms {
 
     /// A list to be filled anew, in the room of one that is no longer needed.
     #[inline(always)]
-    pub(crate) fn list(spare: &mut Vec<Terms>, players: usize) -> Terms
+    pub(crate) fn reused(spare: &mut Vec<Terms>, players: usize) -> Terms
         ensures { result.players ≡ players }
     {
         match spare.pop() {

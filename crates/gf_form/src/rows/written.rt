@@ -294,7 +294,7 @@ impl<'g, 'a> Written<'g, 'a> {
         ensures written { OnOk result (AreWritten asked.now run.to self.new) }
         ensures refused { IsRightlyRefused asked.now result }
     {
-        let mut level = Terms::list(&mut self.spare, terms.players);
+        let mut level = Terms::reused(&mut self.spare, terms.players);
         let mut rest = run;
         let mut chosen = Chosen::none();
         while rest.from < rest.to {

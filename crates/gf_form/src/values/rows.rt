@@ -74,10 +74,7 @@ fn weighed(number: Fraction, chance: Fraction, other: Fraction) -> Option<Fracti
     if number.num() == 0 {
         return Some(product);
     }
-    match number.add(product) {
-        Ok(total) => Some(total),
-        Err(_) => None,
-    }
+    sum(number, product)
 }
 
 /// Adds a row times a probability to a sum.

@@ -11,7 +11,7 @@ use crate::collections::groups::Groups;
 use crate::collections::line::hash_of;
 use crate::collections::progress::Progress;
 use crate::explain::Cause;
-use crate::jobs::ending::{nothing_kept, tell, tell_of, tell_of_file, tell_unopened_of};
+use crate::jobs::ending::{nothing_kept, report, report_explained, report_missing, report_named};
 use crate::jobs::session::Session;
 use crate::opening::inputs::Inputs;
 use gf_canon::Names;
@@ -49,16 +49,16 @@ impl<I: Inputs, P: Progress, W: Sink + LastError, E: Sink> Session<'_, '_, '_, '
         let (alloc, explain, name) = (self.alloc, self.explain, name_of(file));
         let mut source = match open_file(alloc, self.inputs, file, explain) {
             Ok(source) => source,
-            Err(cause) => return Ok(tell_unopened_of(alloc, &cause, name, explain, self.errors)),
+            Err(cause) => return Ok(report_missing(alloc, &cause, name, explain, self.errors)),
         };
         match read_hash(alloc, &mut source, names) {
             Ok(hash) => match groups.push(alloc, name, hash) {
                 Ok(()) => Ok(0),
-                Err(AllocError) => Err(tell(&RunFault::Memory, self.errors)),
+                Err(AllocError) => Err(report(&RunFault::Memory, self.errors)),
             },
             Err(fault) => {
                 let cause = Cause::Transfer(source.last_error());
-                Ok(tell_of(alloc, &fault, &cause, name, source.bytes(), self.errors))
+                Ok(report_named(alloc, &fault, &cause, name, source.bytes(), self.errors))
             }
         }
     }
@@ -76,7 +76,7 @@ impl<I: Inputs, P: Progress, W: Sink + LastError, E: Sink> Session<'_, '_, '_, '
             Err(fault) => {
                 let cause = Cause::Transfer(self.output.last_error());
                 let kept = nothing_kept(self.explain);
-                tell_of_file(self.alloc, &fault, &cause, "", kept, self.errors)
+                report_explained(self.alloc, &fault, &cause, "", kept, self.errors)
             }
         }
     }

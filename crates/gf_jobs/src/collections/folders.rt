@@ -6,7 +6,7 @@ ghost use Rattle.gf_jobs.specs.LedTo.{HasPath, LeadsTo, MayBePassedOver, folder_
 ghost use Rattle.gf_jobs.specs.inner.Followed.{Adds, IsFollowed, IsFrom};
 
 use crate::collections::file::CollectionFile;
-use gf_words::{Input, LineEnd};
+use gf_words::{Input, LineEnd, is_game_file};
 use std::alloc::{AllocError, Global};
 use std::collections::BTreeSet;
 use std::io::{BufRead, BufReader, ErrorKind, Read};
@@ -25,13 +25,6 @@ fn file_in(alloc: Global, folder: &[u8], name: &[u8]) -> Result<CollectionFile, 
             Ok(CollectionFile::NotText(shown))
         }
     }
-}
-
-/// Whether a name ends like that of a game file, in upper or lower case.
-fn is_game_file(name: &str) -> bool {
-    name.rsplit_once('.').is_some_and(|(_, ending)| {
-        ending.eq_ignore_ascii_case("efg") || ending.eq_ignore_ascii_case("nfg")
-    })
 }
 
 /// Which file or folder something is: its device, and its number there.

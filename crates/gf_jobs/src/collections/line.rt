@@ -79,7 +79,7 @@ fn said_of(
 ///   `LineEnd::Null` the line ends with NUL, and the name stands as it is.
 /// - `NotCanonical`: the name in this form and a line feed, or nothing.
 ///
-/// Before any fault except `Write`, nothing is asked of the output.
+/// After any fault except `Write`, nothing was asked of the output.
 ///
 /// # Errors
 ///

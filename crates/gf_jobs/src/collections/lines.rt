@@ -7,7 +7,7 @@ use crate::collections::file::{CollectionFile, name_of, open_file};
 use crate::collections::line::{FileLine, run_line};
 use crate::collections::progress::Progress;
 use crate::explain::cause_of;
-use crate::jobs::ending::{tell_of, tell_of_file, tell_unopened_of};
+use crate::jobs::ending::{report_explained, report_missing, report_named};
 use crate::jobs::session::Session;
 use crate::opening::inputs::Inputs;
 use gf_run::{LastError, RunFault, Sink, answer_status};
@@ -26,7 +26,7 @@ impl<I: Inputs, P: Progress, W: Sink + LastError, E: Sink> Session<'_, '_, '_, '
         let (alloc, explain, name) = (self.alloc, self.explain, name_of(file));
         let mut source = match open_file(alloc, self.inputs, file, explain) {
             Ok(source) => source,
-            Err(cause) => return Ok(tell_unopened_of(alloc, &cause, name, explain, self.errors)),
+            Err(cause) => return Ok(report_missing(alloc, &cause, name, explain, self.errors)),
         };
         let fault = match run_line(alloc, &mut source, name, line, self.output) {
             Ok(good) => return Ok(answer_status(good)),
@@ -35,9 +35,9 @@ impl<I: Inputs, P: Progress, W: Sink + LastError, E: Sink> Session<'_, '_, '_, '
         let cause = cause_of(&fault, &source, self.output);
         let kept = source.bytes();
         if fault == RunFault::Write {
-            return Err(tell_of_file(alloc, &fault, &cause, name, kept, self.errors));
+            return Err(report_explained(alloc, &fault, &cause, name, kept, self.errors));
         }
-        Ok(tell_of(alloc, &fault, &cause, name, kept, self.errors))
+        Ok(report_named(alloc, &fault, &cause, name, kept, self.errors))
     }
 
     /// Writes a line about each file, in their order, and returns the exit status: the worst of all

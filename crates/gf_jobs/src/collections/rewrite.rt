@@ -7,7 +7,7 @@ ghost use Rattle.gf_jobs.specs.Performs.{RewritesNext, unreplaced_fault, without
 use crate::collections::file::{CollectionFile, name_of, open_file};
 use crate::collections::progress::Progress;
 use crate::explain::{Cause, Failed};
-use crate::jobs::ending::{tell_of, tell_unopened_of};
+use crate::jobs::ending::{report_missing, report_named};
 use crate::jobs::session::Session;
 use crate::opening::inputs::{Inputs, Unreplaced};
 use crate::opening::kept::Kept;
@@ -92,12 +92,12 @@ impl<I: Inputs, P: Progress, W, E: Sink> Session<'_, '_, '_, '_, I, P, W, E> {
         let (alloc, explain, name) = (self.alloc, self.explain, name_of(file));
         let mut source = match open_file(alloc, self.inputs, file, explain) {
             Ok(source) => source,
-            Err(cause) => return tell_unopened_of(alloc, &cause, name, explain, self.errors),
+            Err(cause) => return report_missing(alloc, &cause, name, explain, self.errors),
         };
         match rewrite(alloc, self.inputs, &mut source, file, names) {
             Ok(()) => 0,
             Err(Failed { fault, cause }) => {
-                tell_of(alloc, &fault, &cause, name, source.bytes(), self.errors)
+                report_named(alloc, &fault, &cause, name, source.bytes(), self.errors)
             }
         }
     }

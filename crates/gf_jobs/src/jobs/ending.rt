@@ -4,7 +4,7 @@ ghost use Rattle.std.specs.Prelude.{◌≡◌, IfOk, option_map};
 ghost use Rattle.gf_run.specs.Faults.{fault_line, status_of};
 ghost use Rattle.gf_jobs.specs.Wrapped.{kept_at_first};
 ghost use Rattle.gf_jobs.specs.Reports.{IsAnswered, IsLineOr, IsNamedExplanation, IsReported};
-ghost use Rattle.gf_jobs.specs.Reports.{IsTold, IsToldOf};
+ghost use Rattle.gf_jobs.specs.Reports.{IsSent, IsNamedReport};
 ghost use Rattle.gf_jobs.specs.Lines.{after_name};
 
 use crate::explain::{Cause, explanation};
@@ -18,9 +18,9 @@ use std::io;
 ///
 /// The status stays the same if the line cannot be written.
 // No edit: it passes on `write_fault`.
-pub fn tell<E: Sink>(fault: &RunFault, errors: &mut E) -> u8
+pub fn report<E: Sink>(fault: &RunFault, errors: &mut E) -> u8
     ensures status { result ≡ status_of fault.now }
-    ensures told { IsTold E.writer (fault_line fault.now) errors.old errors.new }
+    ensures sent { IsSent E.writer (fault_line fault.now) errors.old errors.new }
 {
     let _ = write_fault(fault, errors);
     status(fault)
@@ -29,7 +29,7 @@ pub fn tell<E: Sink>(fault: &RunFault, errors: &mut E) -> u8
 /// Reports a fault of the file with this name, and returns its exit status. It is explained by the
 /// bytes of the file that were kept. If none were, or memory for the explanation runs out, its line
 /// is written.
-pub(crate) fn tell_of_file<E: Sink>(
+pub(crate) fn report_explained<E: Sink>(
     alloc: Global,
     fault: &RunFault,
     cause: &Cause,
@@ -41,14 +41,14 @@ pub(crate) fn tell_of_file<E: Sink>(
         result errors.old errors.new }
 {
     let Some(bytes) = kept else {
-        return tell(fault, errors);
+        return report(fault, errors);
     };
     match explanation(alloc, fault, cause, name, bytes) {
         Ok(text) => {
             let _ = push_all(errors, text.as_slice());
             status(fault)
         }
-        Err(_) => tell(fault, errors),
+        Err(_) => report(fault, errors),
     }
 }
 
@@ -62,7 +62,7 @@ pub(crate) fn nothing_kept(explain: bool) -> Option<&'static [u8]>
 
 /// Reports that the input of this name could not be opened, and returns the exit status. This is
 /// explained if `explain` is true.
-pub(crate) fn tell_unopened<E: Sink>(
+pub(crate) fn report_unopened<E: Sink>(
     alloc: Global,
     which: Which,
     error: io::Error,
@@ -74,7 +74,7 @@ pub(crate) fn tell_unopened<E: Sink>(
         result errors.old errors.new }
 {
     let (fault, cause) = (RunFault::Read(which), Cause::Opening(error));
-    tell_of_file(alloc, &fault, &cause, name, nothing_kept(explain), errors)
+    report_explained(alloc, &fault, &cause, name, nothing_kept(explain), errors)
 }
 
 /// A text after the name of its file, as it is shown.
@@ -127,7 +127,7 @@ fn named_text(
 
 /// Reports the fault of a file after its name, and returns its status. It is explained by the bytes
 /// of the file that were kept, if any were.
-pub(crate) fn tell_of<E: Sink>(
+pub(crate) fn report_named<E: Sink>(
     alloc: Global,
     fault: &RunFault,
     cause: &Cause,
@@ -135,7 +135,7 @@ pub(crate) fn tell_of<E: Sink>(
     kept: Option<&[u8]>,
     errors: &mut E,
 ) -> u8
-    ensures { IsToldOf E.writer name.now (option_map (λ bytes. bytes.now) kept.entry) fault.now
+    ensures { IsNamedReport E.writer name.now (option_map (λ bytes. bytes.now) kept.entry) fault.now
         result errors.old errors.new }
 {
     match named_text(alloc, fault, cause, name, kept) {
@@ -143,23 +143,24 @@ pub(crate) fn tell_of<E: Sink>(
             let _ = push_all(errors, text.as_slice());
             status(fault)
         }
-        Err(AllocError) => tell(&RunFault::Memory, errors),
+        Err(AllocError) => report(&RunFault::Memory, errors),
     }
 }
 
-/// Reports that a file could not be opened, as `tell_of` does, and returns the status.
-pub(crate) fn tell_unopened_of<E: Sink>(
+/// Reports that one of several files could not be opened, as `report_named` does, and returns the
+/// status.
+pub(crate) fn report_missing<E: Sink>(
     alloc: Global,
     cause: &Cause,
     name: &str,
     explain: bool,
     errors: &mut E,
 ) -> u8
-    ensures { IsToldOf E.writer name.now (kept_at_first explain) (RunFault.Read Which.Only)
+    ensures { IsNamedReport E.writer name.now (kept_at_first explain) (RunFault.Read Which.Only)
         result errors.old errors.new }
 {
     let fault = RunFault::Read(Which::Only);
-    tell_of(alloc, &fault, cause, name, nothing_kept(explain), errors)
+    report_named(alloc, &fault, cause, name, nothing_kept(explain), errors)
 }
 
 /// Answers words that ask for no job, and returns the exit status.
@@ -176,12 +177,12 @@ pub fn answer<W: Sink, E: Sink>(fault: &WordsFault, output: &mut W, errors: &mut
     match fault {
         WordsFault::Help(text) => match push_all(output, text.as_bytes()) {
             Ok(()) => 0,
-            Err(_) => tell(&RunFault::Write, errors),
+            Err(_) => report(&RunFault::Write, errors),
         },
         WordsFault::Usage(text) => {
             let _ = push_all(errors, text.as_bytes());
             3
         }
-        WordsFault::Memory => tell(&RunFault::Memory, errors),
+        WordsFault::Memory => report(&RunFault::Memory, errors),
     }
 }

@@ -2,7 +2,7 @@
 
 ghost use Rattle.std.specs.Prelude.{◌≡◌, IfOk, map};
 ghost use Rattle.std.specs.String.{string_bytes};
-ghost use Rattle.gf_jobs.specs.Performs.{Does, IsSame, IsToldOfPaths, PerformsAll};
+ghost use Rattle.gf_jobs.specs.Performs.{Does, IsSame, IsListReport, PerformsAll};
 ghost use Rattle.gf_jobs.specs.Performs.{repeats_of, without_games, world_of};
 
 use crate::collections::file::{CollectionFile, called};
@@ -11,7 +11,7 @@ use crate::collections::line::FileLine;
 use crate::collections::paths::files_at;
 use crate::collections::progress::Progress;
 use crate::explain::Failed;
-use crate::jobs::ending::{after_name, nothing_kept, tell, tell_of};
+use crate::jobs::ending::{after_name, nothing_kept, report, report_named};
 use crate::jobs::session::Session;
 use crate::opening::inputs::Inputs;
 use gf_canon::Names;
@@ -45,29 +45,23 @@ impl Task {
 
 /// Reports why the files of a collection are not known, and returns the exit status: E20 after the
 /// name of the list, explained if `explain` is true, or E19.
-fn tell_unlisted<E: Sink>(
+fn report_unlisted<E: Sink>(
     alloc: Global,
     paths: &Paths,
     failed: &Failed,
     explain: bool,
     errors: &mut E,
 ) -> u8
-    ensures { IsToldOfPaths E.writer explain failed.now.fault paths.now result
+    ensures { IsListReport E.writer explain failed.now.fault paths.now result
         errors.old errors.new }
 {
     let Failed { fault, cause } = failed;
     match (fault, paths) {
         (RunFault::Read(_), Paths::List { list, .. }) => {
-            tell_of(
-                alloc,
-                fault,
-                cause,
-                called("-", list),
-                nothing_kept(explain),
-                errors,
-            )
+            let (name, kept) = (called("-", list), nothing_kept(explain));
+            report_named(alloc, fault, cause, name, kept, errors)
         }
-        _ => tell(fault, errors),
+        _ => report(fault, errors),
     }
 }
 
@@ -115,9 +109,9 @@ impl<I: Inputs, P: Progress, W: Sink + LastError, E: Sink> Session<'_, '_, '_, '
                     let _ = push_all(self.errors, text.as_slice());
                     self.run_task(found.files.as_slice(), task)
                 }
-                Err(AllocError) => tell(&RunFault::Memory, self.errors),
+                Err(AllocError) => report(&RunFault::Memory, self.errors),
             },
-            Err(failed) => tell_unlisted(self.alloc, paths, &failed, self.explain, self.errors),
+            Err(failed) => report_unlisted(self.alloc, paths, &failed, self.explain, self.errors),
         }
     }
 }

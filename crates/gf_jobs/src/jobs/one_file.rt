@@ -5,12 +5,14 @@ ghost use Rattle.gf_jobs.specs.Lines.{RunsOne};
 
 use crate::collections::file::called;
 use crate::explain::cause_of;
-use crate::jobs::ending::{tell_of_file, tell_unopened};
+use crate::jobs::ending::{report_explained, report_unopened};
 use crate::jobs::session::Session;
 use crate::opening::inputs::{Inputs, open_kept};
 use gf_canon::Names;
 use gf_form::Strategies;
-use gf_run::{LastError, RunFault, Sink, Source, Which, run_canon_by, run_check, run_form};
+use gf_run::{
+    LastError, RunFault, Sink, Source, Which, run_canon_by, run_check, run_table, run_table_reduced,
+};
 use gf_words::Input;
 use std::alloc::Global;
 
@@ -40,7 +42,10 @@ fn run_one<R: Source, W: Sink>(
             run_check(alloc, source, output)?;
             Ok(())
         }
-        OneTask::Table(strategies) => run_form(alloc, source, strategies, output),
+        OneTask::Table(strategies) => match strategies {
+            Strategies::Pure => run_table(alloc, source, output),
+            Strategies::Reduced => run_table_reduced(alloc, source, output),
+        },
     }
 }
 
@@ -55,14 +60,14 @@ impl<I: Inputs, P, W: Sink + LastError, E: Sink> Session<'_, '_, '_, '_, I, P, W
         let mut source = match open_kept(alloc, self.inputs, input, self.explain) {
             Ok(source) => source,
             Err(error) => {
-                return tell_unopened(alloc, Which::Only, error, name, self.explain, self.errors);
+                return report_unopened(alloc, Which::Only, error, name, self.explain, self.errors);
             }
         };
         match run_one(alloc, &mut source, task, self.output) {
             Ok(()) => 0,
             Err(fault) => {
                 let cause = cause_of(&fault, &source, self.output);
-                tell_of_file(alloc, &fault, &cause, name, source.bytes(), self.errors)
+                report_explained(alloc, &fault, &cause, name, source.bytes(), self.errors)
             }
         }
     }

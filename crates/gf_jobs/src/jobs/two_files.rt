@@ -1,18 +1,42 @@
 //! The job over two files.
 
 ghost use Rattle.gf_run.specs.Faults.{answer_status};
+ghost use Rattle.gf_run.specs.Run.{RunsTwo};
 ghost use Rattle.gf_jobs.specs.Wrapped.{bytes_kept};
-ghost use Rattle.gf_jobs.specs.Performs.{IsSame, PerformsTwo, of_fault, world_of};
+ghost use Rattle.gf_jobs.specs.Performs.{IsAnswerBy, IsSame, PerformsTwo, of_fault, world_of};
 ghost use Rattle.gf_jobs.specs.Reports.{Ends, IsReported};
 
 use crate::explain::cause_of;
-use crate::jobs::ending::{tell_of_file, tell_unopened};
+use crate::jobs::ending::{report_explained, report_unopened};
 use crate::jobs::session::Session;
 use crate::opening::inputs::{Inputs, open_named};
 use crate::opening::kept::Kept;
 use gf_canon::Names;
-use gf_run::{LastError, RunFault, Sink, Which, answer_status, is_of_second, run_comparison};
+use gf_run::{
+    LastError, RunFault, Sink, Source, Which, answer_status, is_of_second, run_same_by,
+    run_same_map,
+};
 use std::alloc::Global;
+
+/// Writes whether the two files that it reads mean the same: with their renumbering if `map` is true,
+/// otherwise by `names`.
+fn run_two<R: Source, W: Sink>(
+    alloc: Global,
+    first: &mut R,
+    second: &mut R,
+    map: bool,
+    names: Names,
+    output: &mut W,
+) -> Result<bool, RunFault>
+    ensures { RunsTwo R.reader R.reader W.writer (IsAnswerBy map names) result
+        first.old first.new second.old second.new output.old output.new }
+{
+    if map {
+        run_same_map(alloc, first, second, output)
+    } else {
+        run_same_by(alloc, first, second, names, output)
+    }
+}
 
 /// How the job ends by the result of its run.
 fn end_of<S: LastError, W: LastError, E: Sink>(
@@ -36,7 +60,7 @@ fn end_of<S: LastError, W: LastError, E: Sink>(
             let name = if second_failed { b } else { a };
             let source = if second_failed { second } else { first };
             let cause = cause_of(fault, source, output);
-            tell_of_file(alloc, fault, &cause, name, source.bytes(), errors)
+            report_explained(alloc, fault, &cause, name, source.bytes(), errors)
         }
     }
 }
@@ -52,17 +76,24 @@ impl<I: Inputs, P, W: Sink + LastError, E: Sink> Session<'_, '_, '_, '_, I, P, W
         let (alloc, explain) = (self.alloc, self.explain);
         let first = match open_named(self.inputs, a) {
             Ok(first) => first,
-            Err(error) => return tell_unopened(alloc, Which::First, error, a, explain, self.errors),
+            Err(error) => return report_unopened(
+                alloc,
+                Which::First,
+                error,
+                a,
+                explain,
+                self.errors,
+            ),
         };
         let second = match open_named(self.inputs, b) {
             Ok(second) => second,
             Err(error) => {
-                return tell_unopened(alloc, Which::Second, error, b, explain, self.errors);
+                return report_unopened(alloc, Which::Second, error, b, explain, self.errors);
             }
         };
         let mut first = Kept::new(alloc, first, explain);
         let mut second = Kept::new(alloc, second, explain);
-        let run = run_comparison(alloc, &mut first, &mut second, map, names, self.output);
+        let run = run_two(alloc, &mut first, &mut second, map, names, self.output);
         end_of(alloc, &run, a, b, &first, &second, self.output, self.errors)
     }
 }

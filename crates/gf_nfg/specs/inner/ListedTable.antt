@@ -3,7 +3,7 @@ use Rattle.std.specs.Prelude.{◌≡◌, IsTrue, [], length, map, ⊤}
 use Rattle.std.specs.List.{flat_map}
 use Rattle.gf_nfg.specs.Profiles.{product}
 use Rattle.gf_nfg.specs.Table.{IsTable, Table, rows}
-use Rattle.gf_nfg.specs.TableParts.{rows_of, table_with}
+use Rattle.gf_nfg.specs.inner.TableParts.{rows_of, table_with}
 use Rattle.gf_nfg.specs.inner.PayoffLists.{payoffs_in}
 use Rattle.gf_nfg.specs.inner.Told.{Told}
 use Rattle.gf_nfg.specs.declared.receive.Version.{Version}

@@ -5,7 +5,7 @@ use Rattle.gf_fraction.specs.Ratio.{Ratio}
 use Rattle.gf_nfg.specs.Profiles.{product}
 use Rattle.gf_nfg.specs.Table.{Table}
 use Rattle.gf_nfg.specs.Sentence.{counted_labels}
-use Rattle.gf_nfg.specs.TableParts.{Frame, groups, kept_rows, table_with}
+use Rattle.gf_nfg.specs.inner.TableParts.{Frame, groups, kept_rows, table_with}
 use Rattle.gf_nfg.specs.inner.Machine.{Content}
 
 -- for this many strategies of each player, and their labels in turn, or none if there are only

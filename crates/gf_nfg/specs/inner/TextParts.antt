@@ -6,7 +6,7 @@ use Rattle.gf_fraction.specs.Ratio.{Ratio}
 use Rattle.gf_fraction.specs.NumberText.{number_text}
 use Rattle.gf_token.specs.NameBy.{name_by}
 use Rattle.gf_token.specs.declared.names.Names.{Names}
-use Rattle.gf_nfg.specs.TableParts.{Frame}
+use Rattle.gf_nfg.specs.inner.TableParts.{Frame}
 use Rattle.gf_nfg.specs.TableText.{lines_text, list_text, quoted, spaced}
 
 -- a frame with its names or without

@@ -1,4 +1,5 @@
-//! The heading of a strategic file: its format, title and players.
+//! The heading of a strategic file: its format, title, players and comment, and which version of the
+//! body follows.
 
 ghost use Rattle.std.specs.Prelude.{◌≡◌, ℕ};
 ghost use Rattle.gf_token.specs.Remaining.{StandsBefore};

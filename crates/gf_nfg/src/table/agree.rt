@@ -1,8 +1,6 @@
 //! Whether two tables are the same to play.
 
 ghost use Rattle.std.specs.Prelude.{◌≡◌, ◌↔◌, IfOk, IsTrue};
-ghost use Rattle.gf_token.specs.Label.{label_of};
-ghost use Rattle.gf_token.specs.NameBy.{name_by};
 ghost use Rattle.gf_nfg.specs.SameTable.{SamePlay};
 ghost use Rattle.gf_nfg.specs.inner.TextParts.{frame_by};
 
@@ -11,23 +9,14 @@ use crate::table::classes::Classes;
 use crate::table::frame::Frame;
 use crate::table::rows::Rows;
 use gf_fraction::Fraction;
-use gf_token::{Label, Names};
+use gf_token::Names;
 use std::alloc::{AllocError, Global};
-
-/// Whether two names are the same, if they count.
-fn same_name(a: Label<'_>, b: Label<'_>, names: Names) -> bool
-    ensures { IsTrue result ↔ (name_by names (label_of a.entry) ≡ name_by names (label_of b.entry)) }
-{
-    names == Names::Aside || a.raw() == b.raw()
-}
 
 /// Whether both are the same; title and comment count if `names` are kept.
 pub(crate) fn same_frame(a: &Frame, b: &Frame, names: Names) -> bool
     ensures { IsTrue result ↔ (frame_by names a.now ≡ frame_by names b.now) }
 {
-    same_name(a.title(), b.title(), names)
-        && same_name(a.comment(), b.comment(), names)
-        && a.plays_as(b)
+    names.agree(a.title(), b.title()) && names.agree(a.comment(), b.comment()) && a.plays_as(b)
 }
 
 /// Whether both rows are the same.

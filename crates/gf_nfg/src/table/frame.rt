@@ -2,7 +2,7 @@
 
 ghost use Rattle.std.specs.Prelude.{◌≡◌, ◌<◌, ◌↔◌, Some, IfOk, IsTrue, length, map, slice_get};
 ghost use Rattle.gf_token.specs.Label.{label_of};
-ghost use Rattle.gf_nfg.specs.TableParts.{own_of};
+ghost use Rattle.gf_nfg.specs.inner.TableParts.{own_of};
 
 use crate::table::labels::Labels;
 use crate::table::strategies::StrategyLists;
@@ -19,7 +19,7 @@ pub(crate) struct Frame {
 }
 
 impl Model for Frame {
-    ghost use Rattle.gf_nfg.specs.TableParts.{AreFrameParts, Frame, frame_of};
+    ghost use Rattle.gf_nfg.specs.inner.TableParts.{AreFrameParts, Frame, frame_of};
 
     ghost Value = { Frame };
 

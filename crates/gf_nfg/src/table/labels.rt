@@ -6,7 +6,8 @@ ghost use Rattle.std.specs.List.{join_with_byte};
 ghost use Rattle.gf_token.specs.Label.{label_of};
 ghost use Rattle.gf_token.specs.LabelSpelling.{IsLabel};
 ghost use Rattle.gf_nfg.specs.Sentence.{counted_labels};
-ghost use Rattle.gf_nfg.specs.TableParts.{AreSpellings, dashed};
+ghost use Rattle.gf_nfg.specs.Spellable.{AreSpellings};
+ghost use Rattle.gf_nfg.specs.inner.TableParts.{dashed};
 ghost use Rattle.gf_token.specs.TextLayout.{Keeps};
 
 use crate::table::pieces::piece;
@@ -24,7 +25,7 @@ pub struct Labels {
 
 impl Model for Labels {
     ghost use Rattle.std.specs.Prelude.{List, ℕ};
-    ghost use Rattle.gf_nfg.specs.TableParts.{IsCut, pieces};
+    ghost use Rattle.gf_nfg.specs.inner.TableParts.{IsCut, pieces};
 
     ghost Value = { List (List ℕ) };
 
@@ -213,7 +214,7 @@ impl Labels {
         Ok(())
     }
 
-    /// The label at this place, from 0.
+    /// The label at this place, from 0. The caller has to ensure that there is one.
     // No edit: it returns a part.
     #[tactic(auto, using(crate::proofs::lemmas::tables::Pieces::one_piece))]
     pub fn label(&self, at: usize) -> Label<'_>

@@ -8,7 +8,7 @@ use crate::table::rows::Rows;
 use gf_fraction::Fraction;
 use std::marker::Model;
 
-/// The payoffs that are left: the first player's payoff advances fastest.
+/// The payoffs that are left, profile by profile, with one for each player in turn at each profile.
 #[derive(Drop)]
 pub(crate) struct PayoffsInTurn<'t> {
     /// These whole numbers come first,

@@ -1,7 +1,7 @@
 //! Pieces of a list that is cut at certain ends.
 
 ghost use Rattle.std.specs.Prelude.{◌≡◌, ◌-◌, ◌<◌, Some, length, slice_get, slice_index};
-ghost use Rattle.gf_nfg.specs.TableParts.{RisesTo, pieces, start_of};
+ghost use Rattle.gf_nfg.specs.inner.TableParts.{RisesTo, pieces, start_of};
 
 use std::ops::Range;
 

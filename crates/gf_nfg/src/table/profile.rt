@@ -5,7 +5,7 @@ ghost use Rattle.std.specs.List.{AllByRecursion};
 ghost use Rattle.gf_nfg.specs.Limit.{profile_limit};
 ghost use Rattle.gf_nfg.specs.ProfilePlaces.{IsProfile};
 ghost use Rattle.gf_nfg.specs.Profiles.{product};
-ghost use Rattle.gf_nfg.specs.TableParts.{IsPlaced};
+ghost use Rattle.gf_nfg.specs.inner.TableParts.{IsPlaced};
 
 use crate::table::frame::Frame;
 

@@ -2,7 +2,7 @@
 
 ghost use Rattle.std.specs.Prelude.{◌≡◌, ◌<◌, ◌^◌, Some, IfOk, IfSome, MatchResult, length};
 ghost use Rattle.std.specs.Prelude.{slice_get, true};
-ghost use Rattle.gf_nfg.specs.TableParts.{AreShared, HasRows, kept_rows};
+ghost use Rattle.gf_nfg.specs.inner.TableParts.{AreShared, HasRows, kept_rows};
 
 use gf_fraction::Fraction;
 use std::alloc::{AllocError, Global};
@@ -23,7 +23,7 @@ pub(crate) struct NumberedRows {
 impl Model for NumberedRows {
     ghost use Rattle.std.specs.Prelude.{◌∷◌, List};
     ghost use Rattle.gf_fraction.specs.Ratio.{Ratio};
-    ghost use Rattle.gf_nfg.specs.TableParts.{AreFull, rows_of};
+    ghost use Rattle.gf_nfg.specs.inner.TableParts.{AreFull, rows_of};
 
     ghost Value = { List (List Ratio) };
 
@@ -80,7 +80,7 @@ pub(crate) struct Rows {
 impl Model for Rows {
     ghost use Rattle.std.specs.Prelude.{List};
     ghost use Rattle.gf_fraction.specs.Ratio.{Ratio};
-    ghost use Rattle.gf_nfg.specs.TableParts.{AreNumbered, chosen_rows};
+    ghost use Rattle.gf_nfg.specs.inner.TableParts.{AreNumbered, chosen_rows};
 
     ghost Value = { List (List Ratio) };
 

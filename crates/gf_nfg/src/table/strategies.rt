@@ -5,7 +5,8 @@ ghost use Rattle.std.specs.Prelude.{◌↔◌, IsTrue, OnOk, slice_get};
 ghost use Rattle.std.specs.List.{AllByRecursion};
 ghost use Rattle.gf_token.specs.Label.{label_of};
 ghost use Rattle.gf_nfg.specs.Sentence.{counted_labels};
-ghost use Rattle.gf_nfg.specs.TableParts.{AreSpellings, groups};
+ghost use Rattle.gf_nfg.specs.Spellable.{AreSpellings};
+ghost use Rattle.gf_nfg.specs.inner.TableParts.{groups};
 ghost use Rattle.gf_nfg.specs.inner.ListsLeft.{size_of};
 
 use crate::table::labels::Labels;
@@ -25,7 +26,7 @@ pub(crate) struct StrategyLists {
 
 impl Model for StrategyLists {
     ghost use Rattle.std.specs.Prelude.{List, length, ℕ};
-    ghost use Rattle.gf_nfg.specs.TableParts.{RisesTo, pieces};
+    ghost use Rattle.gf_nfg.specs.inner.TableParts.{RisesTo, pieces};
 
     ghost Value = { List (List (List ℕ)) };
 
@@ -35,7 +36,7 @@ impl Model for StrategyLists {
 }
 
 impl StrategyLists {
-    /// Those of no player.
+    /// No lists.
     pub(crate) fn new(alloc: Global) -> StrategyLists
         ensures { result ≡ [] }
     {
@@ -169,7 +170,7 @@ impl StrategyLists {
         self.labels.size()
     }
 
-    /// How many the player at this place, from 0, has.
+    /// How many strategies the player at this place, from 0, has.
     #[tactic(auto, using(crate::proofs::lemmas::tables::Strategies::kept_lists))]
     pub(crate) fn count(&self, at: usize) -> usize
         requires { at < length self.now }
@@ -179,7 +180,7 @@ impl StrategyLists {
         own.end - own.start
     }
 
-    /// One of the player at this place.
+    /// The label of a strategy of the player at this place, both from 0.
     pub(crate) fn label(&self, at: usize, strategy: usize) -> Label<'_>
         requires { strategy < length (get_or self.now at []) }
         ensures { slice_get (get_or self.now at []) strategy ≡ Some (label_of result) }

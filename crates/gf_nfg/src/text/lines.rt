@@ -90,7 +90,7 @@ pub(crate) struct Lines {
 
 impl Model for Lines {
     ghost use Rattle.std.specs.Prelude.{List, ℕ, length};
-    ghost use Rattle.gf_nfg.specs.TableParts.{RisesTo, pieces};
+    ghost use Rattle.gf_nfg.specs.inner.TableParts.{RisesTo, pieces};
 
     ghost Value = { List (List ℕ) };
 

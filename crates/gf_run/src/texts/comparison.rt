@@ -4,7 +4,6 @@ ghost use Rattle.std.specs.Prelude.{◌≡◌, MatchResult};
 ghost use Rattle.gf_canon.specs.GameFile.{SameFile};
 ghost use Rattle.gf_canon.specs.SameBy.{SameBy};
 ghost use Rattle.gf_run.specs.Faults.{IsFaultOfFiles};
-ghost use Rattle.gf_run.specs.Run.{IsAnswerBy};
 ghost use Rattle.gf_run.specs.Texts.{IsAnswer, IsLine, IsLineAndMap, answer_line};
 
 use crate::fault::RunFault;
@@ -43,7 +42,7 @@ impl ReceivePairs for PairLines {
 /// carries the first to the second.
 ///
 /// Refused as by `same`.
-fn compare_with_map(alloc: Global, a: &[u8], b: &[u8]) -> Result<Answer<bool>, RunFault>
+pub fn compare_with_map(alloc: Global, a: &[u8], b: &[u8]) -> Result<Answer<bool>, RunFault>
     ensures { MatchResult result
         (λ answer. IsAnswer SameFile IsLineAndMap answer.value a.now b.now answer.text.rest)
         (IsFaultOfFiles a.now b.now) }
@@ -60,7 +59,7 @@ fn compare_with_map(alloc: Global, a: &[u8], b: &[u8]) -> Result<Answer<bool>, R
 /// Whether two files are the same, with names or without.
 ///
 /// Refused as by `same_by`.
-fn compare(alloc: Global, a: &[u8], b: &[u8], names: Names) -> Result<Answer<bool>, RunFault>
+pub fn compare(alloc: Global, a: &[u8], b: &[u8], names: Names) -> Result<Answer<bool>, RunFault>
     ensures { MatchResult result
         (λ answer. IsAnswer (SameBy names) IsLine answer.value a.now b.now answer.text.rest)
         (IsFaultOfFiles a.now b.now) }
@@ -68,23 +67,4 @@ fn compare(alloc: Global, a: &[u8], b: &[u8], names: Names) -> Result<Answer<boo
     let same = same_by(alloc, a, b, names)?;
     let text = Vec::from_slice(alloc, answer_line(same))?;
     Ok(answer_with(same, text))
-}
-
-/// Whether two files are the same: with their renumbering if `map` is true, otherwise by `names`.
-pub fn comparison(
-    alloc: Global,
-    a: &[u8],
-    b: &[u8],
-    map: bool,
-    names: Names,
-) -> Result<Answer<bool>, RunFault>
-    ensures { MatchResult result
-        (λ answer. IsAnswerBy map names answer.value a.now b.now answer.text.rest)
-        (IsFaultOfFiles a.now b.now) }
-{
-    if map {
-        compare_with_map(alloc, a, b)
-    } else {
-        compare(alloc, a, b, names)
-    }
 }

@@ -14,8 +14,9 @@ use Rattle.gf_tree.specs.FirstUse.{first_use_numbers}
 use Rattle.gf_tree.specs.Renumbering.{renumbered}
 use Rattle.gf_tree.specs.declared.game.numbered_node.Numbering.{Numbering}
 use Rattle.gf_tree.specs.declared.game.numbered_node.Numbering.TheVariants.{OfFile, ByFirstUse}
-use Rattle.gf_tree.specs.KeptNodes.{Kept, AreAmong, IsAmong, child_count, entries_with, kept_of}
-use Rattle.gf_tree.specs.KeptNodes.{node_with, sizes_of, tree_with}
+use Rattle.gf_tree.specs.KeptNode.{Kept}
+use Rattle.gf_tree.specs.inner.KeptNodes.{AreAmong, IsAmong, child_count, entries_with, kept_of}
+use Rattle.gf_tree.specs.inner.KeptNodes.{node_with, sizes_of, tree_with}
 
 -- all of a game but its nodes
 pub record Parts : Type 0 where

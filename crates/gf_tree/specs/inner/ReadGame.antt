@@ -5,7 +5,7 @@ use Rattle.gf_token.specs.Token.{Token}
 use Rattle.gf_token.specs.declared.fault.Why.{Why}
 use Rattle.gf_token.specs.Offered as any_format
 use Rattle.gf_tree.specs.Game.{Game}
-use Rattle.gf_tree.specs.GameCode.{no_node}
+use Rattle.gf_tree.specs.inner.GameCode.{no_node}
 use Rattle.gf_tree.specs.Grown.{grow, root}
 use Rattle.gf_tree.specs.inner.Machine.{Content, Position, at, at_end, next}
 

@@ -18,7 +18,8 @@ use Rattle.gf_tree.specs.Game.{Node}
 use Rattle.gf_tree.specs.PrefixOrder.{Listed}
 use Rattle.gf_tree.specs.Told.{used_sets_from, Heading, Told, heading_in, kept_as, told_from}
 use Rattle.gf_tree.specs.Told.{told_node, used_outcomes_from}
-use Rattle.gf_tree.specs.KeptNodes.{AreAmong, IsAmong, Kept, child_count, entries_with, entry_with}
+use Rattle.gf_tree.specs.KeptNode.{Kept}
+use Rattle.gf_tree.specs.inner.KeptNodes.{AreAmong, IsAmong, child_count, entries_with, entry_with}
 use Rattle.gf_tree.specs.inner.Machine.{with_node, Position, Content, nothing, Begun, State, run}
 use Rattle.gf_tree.specs.inner.Machine.Position.{Format, NodeDue}
 use Rattle.gf_tree.specs.declared.game.numbered_node.Numbering.TheVariants.{ByFirstUse}

@@ -5,7 +5,7 @@ use Rattle.gf_token.specs.Label.{label_of}
 use Rattle.gf_tree.specs.declared.game.outcomes.StoredOutcome.{StoredOutcome}
 use Rattle.gf_tree.specs.Description.{Outcome}
 use Rattle.gf_tree.specs.FiniteMap.{Described}
-use Rattle.gf_tree.specs.inner.KnownOutcomes.{KnownOutcomes}
+use Rattle.gf_tree.specs.KnownOutcomes.{KnownOutcomes}
 use Rattle.gf_tree.specs.inner.Stretches.{AreStretches}
 
 -- after its payoffs

@@ -4,7 +4,7 @@ ghost use Rattle.std.specs.Prelude.{◌≡◌, map};
 ghost use Rattle.std.specs.Slice.Iter.{iter_rest};
 ghost use Rattle.gf_tree.specs.FileNodes.{file_nodes};
 ghost use Rattle.gf_tree.specs.FirstUse.{first_use_numbers};
-ghost use Rattle.gf_tree.specs.KeptNodes.{kept_of};
+ghost use Rattle.gf_tree.specs.inner.KeptNodes.{kept_of};
 ghost use Rattle.gf_tree.specs.Renumbering.{renumbered};
 ghost use Rattle.gf_tree.specs.inner.GameParts.{IsListed, game_by, game_with, parts_of};
 
@@ -54,7 +54,7 @@ impl<'g, 'a> Model for FileNodes<'g, 'a> {
     ghost use Rattle.std.specs.Prelude.{List, length, map};
     ghost use Rattle.std.specs.Slice.Iter.{iter_rest};
     ghost use Rattle.gf_tree.specs.FileTree.{FileNode};
-    ghost use Rattle.gf_tree.specs.KeptNodes.{AreAmong, kept_of};
+    ghost use Rattle.gf_tree.specs.inner.KeptNodes.{AreAmong, kept_of};
     ghost use Rattle.gf_tree.specs.Told.{told_from};
 
     ghost Value = { List FileNode };

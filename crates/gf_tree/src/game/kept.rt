@@ -9,7 +9,7 @@ ghost use Rattle.gf_token.specs.Positions.{at_position};
 ghost use Rattle.gf_tree.specs.Tree.{Tree};
 ghost use Rattle.gf_tree.specs.PrefixOrder.{flatten};
 ghost use Rattle.gf_tree.specs.Game.{Node};
-ghost use Rattle.gf_tree.specs.KeptNodes.{AreAmong, child_count, child_counts, kept_of, sizes_of};
+ghost use Rattle.gf_tree.specs.inner.KeptNodes.{AreAmong, child_count, child_counts, kept_of, sizes_of};
 ghost use Rattle.gf_tree.specs.NodeOf.{outcome_of, set_of_step};
 ghost use Rattle.gf_tree.specs.inner.Skipped.{Begin, skipped};
 ghost use Rattle.gf_tree.specs.inner.Steps.{is_step};
@@ -130,7 +130,8 @@ pub(crate) struct NodeList<'a> {
 
 impl<'a> Model for NodeList<'a> {
     ghost use Rattle.std.specs.Prelude.{List, map};
-    ghost use Rattle.gf_tree.specs.KeptNodes.{Kept, kept_of};
+    ghost use Rattle.gf_tree.specs.KeptNode.{Kept};
+    ghost use Rattle.gf_tree.specs.inner.KeptNodes.{kept_of};
 
     ghost Value = { List Kept };
 

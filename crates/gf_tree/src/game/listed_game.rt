@@ -26,7 +26,7 @@ pub struct ListedGame<'a> {
 
 impl<'a> Model for ListedGame<'a> {
     ghost use Rattle.gf_tree.specs.Game.{Game};
-    ghost use Rattle.gf_tree.specs.GameCode.{game_code};
+    ghost use Rattle.gf_tree.specs.inner.GameCode.{game_code};
     ghost use Rattle.gf_tree.specs.inner.GameParts.{IsListed, game_with, parts_of};
 
     ghost Value = { Game };

@@ -4,7 +4,7 @@ ghost use Rattle.std.specs.Prelude.{◌+◌, ◌≡◌, ◌<◌, ◌^◌, [], No
 ghost use Rattle.std.specs.Prelude.{slice_get, option_map, position, OnOk, OnErr, IfOk};
 ghost use Rattle.gf_token.specs.Label.{label_of};
 ghost use Rattle.gf_token.specs.Positions.{at_position};
-ghost use Rattle.gf_tree.specs.inner.KnownOutcomes.{with_pending_outcome, with_pending_payoff};
+ghost use Rattle.gf_tree.specs.KnownOutcomes.{with_pending_outcome, with_pending_payoff};
 ghost use Rattle.gf_tree.specs.inner.StoredOutcomes.{end_of};
 
 use crate::hashers::{Hashers, Seed, find, make_room, next_place, push};
@@ -48,7 +48,7 @@ pub(crate) struct Outcomes<'a> {
 }
 
 impl<'a> Model for Outcomes<'a> {
-    ghost use Rattle.gf_tree.specs.inner.KnownOutcomes.{KnownOutcomes};
+    ghost use Rattle.gf_tree.specs.KnownOutcomes.{KnownOutcomes};
     ghost use Rattle.gf_tree.specs.inner.StoredOutcomes.{stored_outcomes, AreOutcomes};
 
     ghost Value = { KnownOutcomes };

@@ -41,7 +41,7 @@ impl<'a> Reader<'a> {
         let Some((word, index)) = self.tokens.index() else {
             return Err(self.tokens.refusal(Why::Expected(What::Index)));
         };
-        let Some(number) = readings::count(index) else {
+        let Some(number) = readings::positive(index) else {
             return Err(Fault::at(word.span, Why::BadIndex));
         };
         if number as usize > self.players.len() {

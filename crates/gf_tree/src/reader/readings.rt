@@ -1,4 +1,5 @@
-//! What bare tokens are read as: numbers of players, sets and outcomes, payoffs and probabilities.
+//! What a bare token is read as where a node names its player or its set, and the next probability of a
+//! set of chance.
 
 ghost use Rattle.std.specs.Prelude.{◌≡◌, IfOk, IfSome};
 ghost use Rattle.gf_fraction.specs.Ratio.{IsFraction};
@@ -10,13 +11,13 @@ ghost use Rattle.gf_tree.specs.inner.Shares.{shared};
 use gf_fraction::{Fraction, NumberFault};
 use gf_token::Why;
 
-/// The count that an index is: it is above zero.
+/// The number of a player or a set that an index is: it is above zero.
 #[inline(always)]
-pub(crate) fn count(index: Option<u32>) -> Option<u32>
+pub(crate) fn positive(index: Option<u32>) -> Option<u32>
     ensures { result ≡ positive index }
 {
     match index {
-        Some(count) if count > 0 => Some(count),
+        Some(number) if number > 0 => Some(number),
         _ => None,
     }
 }

@@ -9,8 +9,8 @@ pub returns-then-eq : goal.returns-then-eq
 returns-then-eq c =
     let is : c.in-Err.refusal.why ≡ Why.Memory = search rules in
     out_of_memory c.in-Err.refusal c.in-Err.ensures.refused
-    (c.tell-status.ensures.status ∙ ap refusal_status is)
-    (rw c.tell-status.ensures.numbers refl)
+    (c.report-status.ensures.status ∙ ap refusal_status is)
+    (rw c.report-status.ensures.numbers refl)
 
 pub returns-in-Ok-explanation_of : goal.returns-in-Ok-explanation_of
 returns-in-Ok-explanation_of c =
@@ -19,8 +19,8 @@ returns-in-Ok-explanation_of c =
     c.in-Ok-explanation_of.ensures c.hand_out.result
     (subst (λ (text : List ℕ). IsHandedOut text c.args.out.now c.hand_out.new.out
     c.hand_out.new.needed c.hand_out.result) c.deref.ensures.value c.hand_out.ensures)
-    c.explained_status.ensures c.tell-status.ensures.numbers
+    c.explained_status.ensures c.report-status.ensures.numbers
 
 pub returns-in-Err-explanation_of : goal.returns-in-Err-explanation_of
 returns-in-Err-explanation_of c = out_of_memory c.in-Err.refusal c.in-Err.ensures.refused refl
-    (rw c.tell-status.ensures.numbers refl)
+    (rw c.report-status.ensures.numbers refl)

@@ -16,9 +16,9 @@ returns-then-players-gt-MOST_PLAYERS c bytes numbers spelled =
 pub returns-in-Ok : goal.returns-in-Ok
 returns-in-Ok c bytes numbers spelled =
     made_answers c.args.strategies bytes (extensive c.args.game.now) c.in-Ok.table _ _ _ spelled
-    c.in-Ok.ensures.form c.write_made.ensures refl
+    c.in-Ok.ensures.form c.write_text.ensures refl
 
 pub returns-in-Err : goal.returns-in-Err
 returns-in-Err c bytes numbers spelled =
     without_form c.args.game.now spelled c.in-Err.fault c.in-Err.ensures.without
-    c.tell_form.ensures.status (rw c.tell_form.ensures.profile refl)
+    c.report_form.ensures.status (rw c.report_form.ensures.profile refl)

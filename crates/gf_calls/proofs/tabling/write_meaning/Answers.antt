@@ -14,4 +14,4 @@ pub returns-in-Table : goal.returns-in-Table
 returns-in-Table c bytes numbers spelled =
     made_answers c.args.strategies bytes (strategic c.in-Table.table) c.in-Table.table _ _ _
     (subst (λ (meaning : Meaning). SpellsWithin bytes (file_of meaning)) c.in-Table.is spelled)
-    refl c.write_made.ensures refl
+    refl c.write_text.ensures refl

@@ -8,7 +8,12 @@ pub returns : goal.returns
 returns c =
     let head = c.in_ok-line.line.items in
     let line : c.deref.result.now ≡ head ++ place_text c.args.fault.now =
-    cc (c.deref.ensures.value, c.in_ok-extend_from_slice.ensures.items, c.as_slice.ensures, c.refusal_line.ensures.text) in
+    cc (
+      c.deref.ensures.value,
+      c.in_ok-extend_from_slice.ensures.items,
+      c.as_slice.ensures,
+      c.refusal_line.ensures.text,
+    ) in
     IfOk-weaker c.said_after.result _ _ (λ text is. record {
       head = head;
       is_where = subst (λ (name : List ℕ). IsWhere c.args.fault.now name c.args.bytes.now head)

@@ -110,13 +110,21 @@ module _ (g : Game) where
   pub some_full : (profile : List ℕ) → Contains (reduced_profiles g) profile → (full : List ℕ)
       × Contains (full_profiles g) full × (reduced_by g full ≡ reduced_at g profile)
   some_full profile i =
-      grind (arith, every_profile, full_of_all (players_of g) profile ((every_profile (reduced_counts (players_of g)) profile).0 i))
+      grind (
+        arith,
+        every_profile,
+        full_of_all (players_of g) profile ((every_profile (reduced_counts (players_of g)) profile).0 i),
+      )
 
   -- and the one to which a full profile reduces
   pub some_reduced : (full : List ℕ) → Contains (full_profiles g) full → (profile : List ℕ)
       × Contains (reduced_profiles g) profile × (reduced_by g full ≡ reduced_at g profile)
   some_reduced full i =
-      grind (arith, every_profile, reduced_of_all (players_of g) full ((every_profile (full_counts (players_of g)) full).0 i))
+      grind (
+        arith,
+        every_profile,
+        reduced_of_all (players_of g) full ((every_profile (full_counts (players_of g)) full).0 i),
+      )
 
   -- ---- the form
 

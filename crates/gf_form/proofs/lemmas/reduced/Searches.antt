@@ -51,7 +51,11 @@ module _ {g : Game} {player count : ℕ} {d : OwnDigit} {faster : List OwnDigit}
   parts : (n : ℕ) → n < length (strategies g player) → choices_at g player (d ∷ faster) n
       ≡ (n % count / each + 1) ∷ get_or (all_choices (actions_of faster)) (n % each) []
   parts n within =
-      let below : n % count < d.actions * product (actions_of faster) = omega (arith, mod-lt n count_some, turn.counted) in
+      let below : n % count < d.actions * product (actions_of faster) = omega (
+        arith,
+        mod-lt n count_some,
+        turn.counted,
+      ) in
       let whole : count ≡ d.actions * each = cc (turn.counted, each_is) in
       let same : n % count % each ≡ n % each = mod-mod_of_dvd each n (subst (λ (m : ℕ). each ∣ m)
       (sym whole) (dvd-mul_left each d.actions)) in
@@ -252,7 +256,12 @@ module _ {p : Player} (is : IsPlayer p) where
           let among : j < length digits = omega (arith, early, below.deep) in
           passed_by g is.is_game p.number numbers number count found below.end
           (λ n from to. (repeated g is.is_game p.number n (digit_at digits j).place (within_all n
-          to) (place_inside j among) (grind (arith, (unmet_flag n j from to among (sym (get_or-take depth met j false early) ∙ shut)))) (grind (
+          to) (place_inside j among)
+          (grind (
+            arith,
+            (unmet_flag n j from to among (sym (get_or-take depth met j false early) ∙ shut)),
+          ))
+          (grind (
             arith,
             nat_tests,
             (unmet_flag n j from to

@@ -27,7 +27,13 @@ spans_above (n ∷ faster) =
 pub pack_below : (actions ds : List ℕ) → AreWithin actions ds
     → pack actions ds < product (spans actions)
 pack_below (n ∷ faster) (d ∷ ds) h =
-    (omega (arith, mul-le-mul_right (product (spans faster)) h.0, (pack_below faster ds h.1), h.0, pack_below faster ds h.1))
+    (omega (
+      arith,
+      mul-le-mul_right (product (spans faster)) h.0,
+      (pack_below faster ds h.1),
+      h.0,
+      pack_below faster ds h.1,
+    ))
 pack_below actions ds h = grind arith
 
 pub within_length : (actions ds : List ℕ) → AreWithin actions ds → length ds ≡ length actions

@@ -51,7 +51,11 @@ module _ (den : ℕ) (den_above : 0 < den) (den_within : den < 2 ^ 127) (by : �
       → IsPart den by y n → IsWithin m → IsWithin n → IsWithin (m +ℤ n)
       → (r : Ratio) × (sum_of x y ≡ Some r) × IsFraction r × IsPart den by r (m +ℤ n)
   sum_part x y m n fx fy (inl px) (inl py) hm hn hs =
-      grind (arith, sum_over x y m n (den / by) fx fy (quotient_above by den den_above px.0) (left_within px.0) px.1 py.1 hm hn hs)
+      grind (
+        arith,
+        sum_over x y m n (den / by) fx fy (quotient_above by den den_above px.0) (left_within px.0)
+            px.1 py.1 hm hn hs,
+      )
   sum_part x y m n fx fy (inr px) py hm hn hs = grind (arith, zero_plus)
   sum_part x y m n fx fy (inl px) (inr py) hm hn hs = grind (arith, plus_zero, +ℤ_idr)
 
@@ -95,7 +99,11 @@ module _ (g : Game) (player den : ℕ) where
 
   pub fits_parts : (xs ys : List Path) → Fits (xs ++ ys) → Fits xs × Fits ys
   fits_parts xs ys fits =
-      grind (arith, bounds_append, all_parts (IsExactAt den [] []) (node_terms g player xs) (node_terms g player ys) (rw map-append at fits.exact))
+      grind (
+        arith,
+        bounds_append,
+        all_parts (IsExactAt den [] []) (node_terms g player xs) (node_terms g player ys) (rw map-append at fits.exact),
+      )
 
   -- where nothing is added, the value counts for nothing, or is zero
   pub zero_valued : {pay : Ratio} (path : Path) (rs : List Path) → IsFraction pay
@@ -234,7 +242,9 @@ module _ (g : Game) (player den : ℕ) where
             let likely = eqb-false a 0 is in
             product_part den fits.den_above_zero fits.den_within path.den c h.ratio h.amount fc
             h.fraction (h.amount_is (mul_above path.bound a some (omega (arith, likely))))
-            (within_part part path.bound (bounds xs) some (grind (arith, ap (λ k. k * path.bound) (unsigned_abs-mul c.num h.amount))) fits.within)
+            (within_part part path.bound (bounds xs) some
+            (grind (arith, ap (λ k. k * path.bound) (unsigned_abs-mul c.num h.amount)))
+            fits.within)
 
     pub times_valued : IsValued (times_of c value) path xs
     times_valued = record {

@@ -21,7 +21,11 @@ profile_at count counts number rest less below =
     let row = row_at (λ (others : List ℕ). map (λ s. s ∷ others) (positions count)) count (λ others.
     length-map (positions count) (λ s. s ∷ others) ∙ length-numbers_from 1 count) (profiles counts)
     rest number [] [] (omega (arith, below, length-profiles counts)) less in
-    let first = get_or-map (λ (s : ℕ). s ∷ others) (positions count) number 0 [] (omega (arith, less, length-numbers_from 1 count)) in
+    let first = get_or-map (λ (s : ℕ). s ∷ others) (positions count) number 0 [] (omega (
+      arith,
+      less,
+      length-numbers_from 1 count,
+    )) in
     let at : number + count * rest ≡ rest * count + number = omega arith in
     grind (arith, get_or-numbers_from)
 

@@ -220,7 +220,17 @@ pub one_joined_more : (firsts others labels next : List (List ℕ)) (i j : ℕ)
     → label ≡ first ++ 45 ∷ other → next ≡ labels ++ label ∷ []
     → AreJoined firsts others labels i j → AreJoined firsts others next i (j + 1)
 one_joined_more firsts others labels next i j first other label hi hj at_i at_j is more h =
-    grind (arith, counted, slice_get-map, slice_get-get_or, length-all_choices, joined_at, label_of_both, long, one_label_more)
+    grind (
+      arith,
+      counted,
+      slice_get-map,
+      slice_get-get_or,
+      length-all_choices,
+      joined_at,
+      label_of_both,
+      long,
+      one_label_more,
+    )
 
 pub row_joined : (firsts others labels : List (List ℕ)) (i j : ℕ) → j ≡ length others
     → AreJoined firsts others labels i j → AreJoined firsts others labels (i + 1) 0

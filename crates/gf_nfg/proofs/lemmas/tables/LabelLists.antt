@@ -6,7 +6,7 @@ use Rattle.gf_nfg.proofs.Common.{IsLabel, RisesTo, length, arith, Label, true, L
 use Rattle.gf_nfg.proofs.Common.{take, refl, ◌≡◌, ◌+◌, ◌∷◌, map, ◌∙◌, sym, sum, [], ℕ}
 use Rattle.gf_nfg.proofs.Common.{◌<◌, ◌^◌, ◌==◌, counted_labels, decimal, false, length-append}
 use Rattle.gf_nfg.proofs.Common.{map-append, nat_tests}
-use Rattle.gf_nfg.specs.TableParts.{dashed}
+use Rattle.gf_nfg.specs.inner.TableParts.{dashed}
 use Rattle.std.specs.Str.Parse.{AllDigits}
 use Rattle.std.proofs.lemmas.Fmt.{decimal_is_IsNumeral_wide}
 use Rattle.gf_nfg.proofs.lemmas.tables.Lists.{sum-cons}

@@ -3,7 +3,7 @@ use Rattle.gf_tree.proofs.Common.{append_assoc, flatten_all, zero-add, flatten, 
 use Rattle.gf_tree.proofs.Common.{others, subst, arith, Trees, count, Fills, first, List, suc}
 use Rattle.gf_tree.proofs.Common.{◌++◌, refl, Tree, none, more, grow, ◌+◌, ◌∷◌, sym, ◌∙◌, [], ap, ℕ}
 use Rattle.std.proofs.lemmas.List.{append-nil}
-pub use Rattle.gf_tree.specs.GrowsAgain.{grows_again}
+pub use Rattle.gf_tree.specs.inner.GrowsAgain.{grows_again}
 
 -- ---- what was flattened grows again
 

@@ -15,7 +15,7 @@ use Rattle.std.specs.Prelude.{OnOk, IfOk, IfNone, MatchResult}
 use Rattle.std.proofs.lemmas.Bool.Decides.{nat_tests}
 use Rattle.gf_token.specs.Offered.{of_file}
 use Rattle.std.proofs.lemmas.List.Quantifiers.{position-Some}
-use Rattle.gf_tree.specs.inner.KnownOutcomes.{with_pending_outcome}
+use Rattle.gf_tree.specs.KnownOutcomes.{with_pending_outcome}
 use Rattle.gf_token.specs.ReadAs.{IsReadAs}
 pub use Rattle.gf_token.proofs.Offered.{carried, fails_back, goes_back, refused_why}
 use Rattle.gf_token.proofs.Offered.{passed_before}

@@ -152,7 +152,17 @@ module _ {T : Type 0} (holds : T → T → Heading → List Told → Type 0) (un
       → HasRead (λ t told. holds untold t heading told) start NodeDue (with_children new set) to
   read_one_more {start} {old} {new} {from} {to} {set} k h = record {
     nodes = k.nodes ++ h.node ∷ [];
-    goes = grind (arith, k.goes, outcomes_grow, placed_among_more, grows_length, sets_grow, h.goes, append_assoc, entries_more new.sets.known new.outcomes.known k.nodes h.node);
+    goes = grind (
+      arith,
+      k.goes,
+      outcomes_grow,
+      placed_among_more,
+      grows_length,
+      sets_grow,
+      h.goes,
+      append_assoc,
+      entries_more new.sets.known new.outcomes.known k.nodes h.node,
+    );
     has_told = told_one_more k.has_told h;
   }
 

@@ -77,7 +77,9 @@ new_found (Text label ∷ ts) name (suc player) n set sum c r fraction e =
     (λ actions h. (refl, h))
     (new_found ts name (suc player) n (with_action set label None) sum c r fraction e)
 new_found (Text label ∷ Bare b ∷ ts) name zero n set sum c r fraction e =
-    let h : (s : Share) × ((share_of sum b) ≡ ok_share s) × Reads (NewAction name (set_of 0 n) (with_action set label (Some s.probability)) s.sum) c ts r = grind arith in
+    let h : (s : Share) × (share_of sum b ≡ ok_share s)
+    × Reads (NewAction name (set_of 0 n) (with_action set label (Some s.probability)) s.sum) c ts r =
+    grind arith in
     let s = h.0 in
     let is = share_found sum b s fraction h.1 in
     new_more (Text label ∷ Bare b ∷ []) ts name label 0 n set (Some s.probability) sum s.sum c r

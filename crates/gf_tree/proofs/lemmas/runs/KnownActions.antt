@@ -71,6 +71,11 @@ pub known_again : (actions : List Action) (player : ℕ)
     ≡ run_tokens (OutcomeNumber b) c rest
 known_again [] player inner rest b c each = rw each refl
 known_again (a ∷ actions) zero inner rest b c each =
-    grind (arith, text_again, number_same each.3.1 (at (KnownAction b actions) c) each.3.0 each.3.3, known_again actions 0 each.1 rest b c each.4)
+    grind (
+      arith,
+      text_again,
+      number_same each.3.1 (at (KnownAction b actions) c) each.3.0 each.3.3,
+      known_again actions 0 each.1 rest b c each.4,
+    )
 known_again (a ∷ actions) (suc player) inner rest b c each =
     grind (arith, known_again actions (suc player) each.1 rest b c each.4, text_again)

@@ -85,7 +85,8 @@ pub new_found : (may : Bool) (ts : List Token) (b : Begun)
 new_found true (Comma ∷ ts) b n outcome left c r e =
     grind (arith, past_comma, new_found false ts b n outcome left c r e)
 new_found may (Bare t ∷ ts) b n outcome (suc left) c r e =
-    let h : (p : Ratio) × ((number_of t) ≡ Ok p) × Reads (NewPayoff true b n (with_payoff outcome p) left) c ts r = grind arith in
+    let h : (p : Ratio) × (number_of t ≡ Ok p)
+    × Reads (NewPayoff true b n (with_payoff outcome p) left) c ts r = grind arith in
     new_more may t h.0 ts b n outcome left c r h.1
     (new_found true ts b n (with_payoff outcome h.0) left c r h.2)
 new_found may ts b n outcome left c r e = grind (arith, new_end)

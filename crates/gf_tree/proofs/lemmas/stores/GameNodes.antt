@@ -8,8 +8,8 @@ use Common.{Listed, Stored, SetKey, IsHeld, subst, arith, Trees, count, Fills, B
 use Common.{◌++◌, drop, refl, Tree, none, more, grow, Node, Kept, root, ◌≡◌, suc, ◌+◌, ◌<◌, ◌∷◌, ap}
 use Common.{map, sym, ◌∙◌}
 use Rattle.std.proofs.Math.Seq.{drop-cons}
-use Rattle.gf_tree.specs.GrowsAgain.{root_grows_again}
-use Rattle.gf_tree.specs.KeptNodes.{node_with}
+use Rattle.gf_tree.specs.inner.GrowsAgain.{root_grows_again}
+use Rattle.gf_tree.specs.inner.KeptNodes.{node_with}
 use Rattle.gf_tree.proofs.lemmas.games.Members.{beside}
 use Rattle.gf_tree.proofs.lemmas.games.Prefix.{one_tree}
 use Rattle.gf_tree.proofs.lemmas.stores.SubtreeSizes.{begin_first, counts_of, drop_suc, skips_to}

@@ -3,7 +3,8 @@ use Rattle.gf_tree.proofs.lemmas.games.Members.{all_more}
 use Rattle.gf_tree.proofs.lemmas.stores.Stretching.{up_to}
 use Rattle.gf_tree.proofs.Common
 use Common.{AllByRecursion, AreSets, AreStretches, Described, HoldActions, InformationSet, KnownSets}
-use Common.{slice_get_within, SetKey, ◌++◌, ◌+◌, ◌<◌, ◌==◌, ◌^◌, ◌∙◌, ◌∷◌, ◌≡◌, ◌≢◌, ◌≤◌, List, None, Some, [], action_of}
+use Common.{slice_get_within, SetKey, ◌++◌, ◌+◌, ◌<◌, ◌==◌, ◌^◌, ◌∙◌, ◌∷◌, ◌≡◌, ◌≢◌, ◌≤◌, List, None, Some}
+use Common.{[], action_of}
 use Common.{actions_of, ap, arith, append-nil, described, drop, drop-append-le, drop_of_length-le}
 use Common.{end_of, eq-eqb, eqb-false, eqb-true, filter-append, get_or, known_of, label_of, length}
 use Common.{length-take-le, map, map-append, max, number_among, position, position_from}

@@ -5,7 +5,7 @@ use Common.{append-nil, length-map, map-append, slice_get, drop-map, subtrees, z
 use Common.{list_of, skipped, Listed, branch, get_or, length, Begin, Trees, arith, count, List, suc}
 use Common.{Tree, drop, more, none, refl, zero, ◌++◌, sym, ◌+◌, ◌<◌, ◌∙◌, ◌∷◌, ◌≡◌, ◌≤◌, [], ap}
 use Rattle.std.proofs.Math.Seq.{drop-append_seam}
-use Rattle.gf_tree.specs.GrowsAgain.{join}
+use Rattle.gf_tree.specs.inner.GrowsAgain.{join}
 
 abbrev size_of : {N : Type 0} → Tree N → ℕ
 size_of t = length (flatten t)

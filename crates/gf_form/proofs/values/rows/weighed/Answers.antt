@@ -11,8 +11,5 @@ returns-in_default-clause-is c = grind (arith, weighed_steps)
 pub returns-then-num-eq0-2-clause-is : goal.returns-then-num-eq0-2-clause-is
 returns-then-num-eq0-2-clause-is c = grind (arith, weighed_steps)
 
-pub returns-in-Ok-add-clause-is : goal.returns-in-Ok-add-clause-is
-returns-in-Ok-add-clause-is c = grind (arith, weighed_steps)
-
-pub returns-in-Err-clause-is : goal.returns-in-Err-clause-is
-returns-in-Err-clause-is c = grind (arith, weighed_steps)
+pub returns-clause-is : goal.returns-clause-is
+returns-clause-is c = grind (arith, weighed_steps)

@@ -13,5 +13,9 @@ pub returns-in_err-run_check-in-Check : goal.returns-in_err-run_check-in-Check
 returns-in_err-run_check-in-Check g c = rw (c.in-Check.is, is_error _ _ c.from_residual.ensures.1)
     (FileKind.Tree, c.in_err-run_check-in-Check.ensures)
 
-pub returns-in-Table : goal.returns-in-Table
-returns-in-Table g c = rw c.in-Table.is c.run_form.ensures
+pub returns-in-Pure : goal.returns-in-Pure
+returns-in-Pure g c = rw (c.in-Table.is, c.in-Pure.is) c.run_table.ensures
+
+pub returns-in-Reduced : goal.returns-in-Reduced
+returns-in-Reduced g c =
+    rw (c.in-Table.is, c.in-Reduced.is) c.run_table_reduced.ensures

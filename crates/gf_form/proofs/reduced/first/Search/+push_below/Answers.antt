@@ -47,7 +47,8 @@ returns t c =
     let below = rw c.in-Some.ensures.cases.0 at c.requires.below in
     let end : c.loop-before.before ≡ c.actions_tried-tried.result =
     omega (arith, c.loop-before-test.false, c.loop-before.auto.before-end) in record {
-      found = all_found c.requires.player below c.in_ok-mark.ensures _ (end ∙ c.actions_tried-tried.ensures.all) _ c.loop-before.invariant;
+      found = all_found c.requires.player below c.in_ok-mark.ensures _
+          (end ∙ c.actions_tried-tried.ensures.all) _ c.loop-before.invariant;
     }
 
 pub actions_tried-tried-requires-clause-there : goal.actions_tried-tried-requires-clause-there

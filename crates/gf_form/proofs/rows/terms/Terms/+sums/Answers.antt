@@ -9,7 +9,18 @@ use Rattle.gf_form.proofs.rows.terms.Terms.+sums.Goals as goal
 
 pub summed-push_sums-requires : goal.summed-push_sums-requires
 summed-push_sums-requires t c =
-    grind (arith, none_ordered, first_step, faster_within, c.in_ok-push_part.ensures, c.clear-2.ensures.none, c.clear-2.ensures.players, c.list-list.ensures, c.clear.ensures.players, c.list-first.ensures)
+    grind (
+      arith,
+      none_ordered,
+      first_step,
+      faster_within,
+      c.in_ok-push_part.ensures,
+      c.clear-2.ensures.none,
+      c.clear-2.ensures.players,
+      c.reused-list.ensures,
+      c.clear.ensures.players,
+      c.reused-first.ensures,
+    )
 
 pub summed-push_part-requires-clause-may : goal.summed-push_part-requires-clause-may
 summed-push_part-requires-clause-may t c =
@@ -17,7 +28,15 @@ summed-push_part-requires-clause-may t c =
 
 pub summed-push_part-requires-2-clause-may : goal.summed-push_part-requires-2-clause-may
 summed-push_part-requires-2-clause-may t c =
-    grind (arith, first_step, c.deref.ensures.value, c.count_near-free.ensures, c.requires.steps, c.in_ok-push_sums.ensures.added.ends, c.len.ensures)
+    grind (
+      arith,
+      first_step,
+      c.deref.ensures.value,
+      c.count_near-free.ensures,
+      c.requires.steps,
+      c.in_ok-push_sums.ensures.added.ends,
+      c.len.ensures,
+    )
 
 pub summed-returns-clause-sums : goal.summed-returns-clause-sums
 summed-returns-clause-sums t c =

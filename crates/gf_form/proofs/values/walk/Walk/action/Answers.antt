@@ -3,4 +3,13 @@ use Rattle.gf_form.proofs.values.walk.Walk.action.Goals as goal
 
 pub returns : goal.returns
 returns c key is =
-    grind (arith, option_map, length-map, c.requires.mover, c.action.ensures, c.requires.is_game, c.requires.walk.choices, c.requires.personal)
+    grind (
+      arith,
+      option_map,
+      length-map,
+      c.requires.mover,
+      c.action.ensures,
+      c.requires.is_game,
+      c.requires.walk.choices,
+      c.requires.personal,
+    )

@@ -6,7 +6,7 @@ pub returns-in-Err-clause-next : goal.returns-in-Err-clause-next
 returns-in-Err-clause-next g c = λ files is. (
   files,
   is,
-  unopened c.in-Err.ensures refl (rw c.name_of-name.ensures at c.tell_unopened_of.ensures),
+  unopened c.in-Err.ensures refl (rw c.name_of-name.ensures at c.report_missing.ensures),
 )
 
 pub returns-in-Ok-push-clause-next : goal.returns-in-Ok-push-clause-next
@@ -25,7 +25,7 @@ pub returns-in-Ok-read_hash-clause-next : goal.returns-in-Ok-read_hash-clause-ne
 returns-in-Ok-read_hash-clause-next g c = λ files is.
     opened (Ok c.in-Ok-read_hash.hash) _ _ _ c.in-Ok.ensures.0 c.in-Ok.ensures.1
     (refl, refl, c.in-Ok-read_hash.ensures)
-    (refl, (c.tell.ensures.status, (_, refl, c.tell.ensures.told)))
+    (refl, (c.report.ensures.status, (_, refl, c.report.ensures.sent)))
 
 pub returns-clause-next : goal.returns-clause-next
 returns-clause-next g c = λ files is. (
@@ -33,5 +33,5 @@ returns-clause-next g c = λ files is. (
   is,
   opened (Err c.in-Err-read_hash.fault) _ _ _ c.in-Ok.ensures.0 c.in-Ok.ensures.1
       (refl, refl, c.in-Err-read_hash.ensures)
-      (rw (c.name_of-name.ensures, c.bytes.ensures) at c.tell_of.ensures),
+      (rw (c.name_of-name.ensures, c.bytes.ensures) at c.report_named.ensures),
 )

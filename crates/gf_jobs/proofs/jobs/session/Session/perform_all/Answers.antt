@@ -20,9 +20,9 @@ returns-in-Ok-without_games-clause-performed g c =
 
 pub returns-in-Ok-clause-performed : goal.returns-in-Ok-clause-performed
 returns-in-Ok-clause-performed g c = unlisted RunFault.Memory tt c.in-Ok.ensures.opened refl
-    (c.tell.ensures.status, (_, refl, c.tell.ensures.told))
+    (c.report.ensures.status, (_, refl, c.report.ensures.sent))
 
 pub returns-clause-performed : goal.returns-clause-performed
 returns-clause-performed g c =
     unlisted c.in-Err.failed.fault c.in-Err.ensures.fault c.in-Err.ensures.opened refl
-    c.tell_unlisted.ensures
+    c.report_unlisted.ensures

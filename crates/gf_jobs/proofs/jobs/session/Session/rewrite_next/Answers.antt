@@ -4,7 +4,7 @@ use Rattle.gf_jobs.proofs.jobs.session.Session.rewrite_next.Goals as goal
 
 pub returns-in-Err-clause-next : goal.returns-in-Err-clause-next
 returns-in-Err-clause-next g c =
-    unopened c.in-Err.ensures refl (rw c.name_of-name.ensures at c.tell_unopened_of.ensures)
+    unopened c.in-Err.ensures refl (rw c.name_of-name.ensures at c.report_missing.ensures)
 
 pub returns-in-Ok-rewrite-clause-next : goal.returns-in-Ok-rewrite-clause-next
 returns-in-Ok-rewrite-clause-next g c = opened (Ok tt) _ _ _ c.in-Ok.ensures.0 c.in-Ok.ensures.1
@@ -13,4 +13,4 @@ returns-in-Ok-rewrite-clause-next g c = opened (Ok tt) _ _ _ c.in-Ok.ensures.0 c
 pub returns-clause-next : goal.returns-clause-next
 returns-clause-next g c = opened (Err c.in-Err-rewrite.field-0.fault) _ _ _ c.in-Ok.ensures.0
     c.in-Ok.ensures.1 (refl, c.in-Err-rewrite.ensures)
-    (rw (c.name_of-name.ensures, c.bytes.ensures) at c.tell_of.ensures)
+    (rw (c.name_of-name.ensures, c.bytes.ensures) at c.report_named.ensures)

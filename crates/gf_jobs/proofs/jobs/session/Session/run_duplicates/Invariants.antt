@@ -17,5 +17,6 @@ invariant-loop-file g l = record {
       (IsOutOfMemory g.I.Inputs.opener g.I.Opened.Source.reader g.E.Sink.writer l.fn.self.explain
       l.names l.fn.self.output.now)
       (WritesGroups g.W.Sink.writer g.E.Sink.writer l.fn.self.explain l.end
-      l.fn.self.output.now) l.files l.file-index (with_output [] (world_of l.fn.self)) l.worst (with_output files (world_of l.self));
+      l.fn.self.output.now) l.files l.file-index (with_output [] (world_of l.fn.self)) l.worst
+      (with_output files (world_of l.self));
 }

@@ -15,5 +15,5 @@ returns-in-Err-clause-groups g c = λ files is. (
   Err c.in-Err.fault,
   refl,
   written _ _ _ _ _ _ _ (c.text.ensures files is) c.in-Err.ensures,
-  rw c.nothing_kept-kept.ensures at c.tell_of_file.ensures,
+  rw c.nothing_kept-kept.ensures at c.report_explained.ensures,
 )

@@ -6,18 +6,12 @@ use Rattle.gf_token.specs.Positions.{at_position}
 use Rattle.gf_tree.specs.Tree.{Tree}
 use Rattle.gf_tree.specs.PrefixOrder.{Listed}
 use Rattle.gf_tree.specs.Grown.{grow, root}
+use Rattle.gf_tree.specs.KeptNode.{Kept}
 use Rattle.gf_tree.specs.FiniteMap.{Described}
 use Rattle.gf_tree.specs.Game.{Node}
-use Rattle.gf_tree.specs.GameCode.{no_node}
+use Rattle.gf_tree.specs.inner.GameCode.{no_node}
 use Rattle.gf_tree.specs.declared.game.kept.Stored.{Stored}
 use Rattle.gf_tree.specs.Description.{SetKey, InformationSet, Outcome}
-
--- Its name, and the positions of its set and of its outcome among those that are known, from 1, or
--- 0 if it has none.
-pub record Kept : Type 0 where
-  pub name : List ℕ
-  pub set : ℕ
-  pub outcome : ℕ
 
 abbrev pub kept_of : Stored → Kept
 kept_of n = record { name = label_of n.name; set = n.set; outcome = n.outcome }

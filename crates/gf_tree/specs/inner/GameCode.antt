@@ -5,7 +5,7 @@ use Rattle.gf_fraction.specs.Ratio.{Ratio}
 use Rattle.gf_tree.specs.Tree.{Tree}
 use Rattle.gf_tree.specs.PrefixOrder.{Listed, flatten}
 use Rattle.gf_tree.specs.Grown.{grow, root}
-use Rattle.gf_tree.specs.GrowsAgain.{root_grows_again}
+use Rattle.gf_tree.specs.inner.GrowsAgain.{root_grows_again}
 use Rattle.gf_tree.specs.FiniteMap.{Described}
 use Rattle.gf_tree.specs.Game.{Node, Game}
 use Rattle.gf_tree.specs.Description.{Action, SetKey, InformationSet, Outcome}

@@ -1,7 +1,7 @@
 use Rattle.gf_form.proofs.Common.{◌≡◌, ◌++◌, length, map, is_paid, paid_reached, rows_of, node_at}
 use Rattle.gf_form.proofs.Common.{stops_left, path_handing, choices_by}
 use Rattle.std.specs.List.{filter}
-use Rattle.gf_form.proofs.rows.shares.paid_nodes.Given as goal
+use Rattle.gf_form.proofs.rows.paid_nodes.paid_nodes.Given as goal
 
 abbrev pub invariant-loop-walk : goal.invariant-loop-walk
 invariant-loop-walk l =

@@ -1,5 +1,5 @@
 use Rattle.gf_form.proofs.Common.{arith}
-use Rattle.gf_form.proofs.rows.shares.sum_of.Goals as goal
+use Rattle.gf_form.proofs.rows.paid_nodes.sum_of.Goals as goal
 
 pub returns-clause-sum : goal.returns-clause-sum
 returns-clause-sum c =

@@ -3,11 +3,10 @@ use Rattle.std.specs.Prelude.{◌≡◌, ℕ, zero, suc, pos, ◌-◌, ◌*◌, 
 use Rattle.std.specs.Prelude.{take, drop, get_or, length, slice_get, replicate, unwrap_or, map}
 use Rattle.std.specs.List.{AllByRecursion, flat_map}
 use Rattle.gf_fraction.specs.Ratio.{IsFraction, Ratio, whole}
-use Rattle.gf_token.specs.LabelSpelling.{IsLabel}
 use Rattle.gf_nfg.specs.ProfilePlaces.{IsProfile, place}
 use Rattle.gf_nfg.specs.Profiles.{product, profiles}
 use Rattle.gf_nfg.specs.Limit.{IsWithinLimit, profile_limit}
-use Rattle.gf_nfg.specs.Spellable.{IsSpellable}
+use Rattle.gf_nfg.specs.Spellable.{AreSpellings, IsSpellable}
 use Rattle.gf_nfg.specs.Table.{Entry, Table, IsTable, rows}
 
 -- a list cut at these ends, from this place on
@@ -25,10 +24,6 @@ start_of from (end ∷ ends) (suc n) = start_of end ends n
 abbrev pub RisesTo : ℕ → ℕ → List ℕ → Type 0
 RisesTo whole from [] = from ≡ whole
 RisesTo whole from (end ∷ ends) = (from ≤ end) × RisesTo whole end ends
-
--- each is the spelling of a label
-abbrev pub AreSpellings : List (List ℕ) → Type 0
-AreSpellings labels = AllByRecursion IsLabel labels
 
 -- bytes that are cut into labels at these ends
 pub record IsCut (ends : List ℕ) (bytes : List ℕ) : Type 0 where

@@ -1,6 +1,6 @@
 use Rattle.gf_form.proofs.Common.{arith}
 use Rattle.gf_form.proofs.lemmas.rows.ListedTerms.{added_up, have_then}
-use Rattle.gf_form.proofs.rows.shares.add_up.Goals as goal
+use Rattle.gf_form.proofs.rows.paid_nodes.add_up.Goals as goal
 
 pub returns : goal.returns
 returns c = have_then _ _ _

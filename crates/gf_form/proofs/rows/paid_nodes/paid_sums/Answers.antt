@@ -1,6 +1,6 @@
 use Rattle.gf_form.proofs.Common.{IsNonDecreasingBy-from_sort_by_key, rules, Path}
 use Rattle.gf_form.proofs.lemmas.rows.ListedTerms.{have_permuted, have_then}
-use Rattle.gf_form.proofs.rows.shares.paid_sums.Goals as goal
+use Rattle.gf_form.proofs.rows.paid_nodes.paid_sums.Goals as goal
 
 pub returns-clause-shares : goal.returns-clause-shares
 returns-clause-shares c =

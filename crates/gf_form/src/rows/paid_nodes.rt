@@ -17,7 +17,7 @@ use crate::values::payoffs::Payoffs;
 use gf_tree::Game;
 use std::alloc::{AllocError, Global};
 
-/// Above each outcome.
+/// Greater than each position of an outcome.
 const RADIX: u128 = 1 << 32;
 
 /// What a path demands, and what its weight is over.

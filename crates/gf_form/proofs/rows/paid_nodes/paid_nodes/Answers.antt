@@ -1,5 +1,5 @@
 use Rattle.gf_form.proofs.Common.{refl}
-use Rattle.gf_form.proofs.rows.shares.paid_nodes.Goals as goal
+use Rattle.gf_form.proofs.rows.paid_nodes.paid_nodes.Goals as goal
 
 pub loop-walk-init : goal.loop-walk-init
 loop-walk-init c =
