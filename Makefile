@@ -15,6 +15,9 @@ ZSHDIR ?= $(PREFIX)/share/zsh/site-functions
 version = $(shell sed -n 's/^.define GAMEFILE_VERSION "\(.*\)"/\1/p' library/gamefile.h)
 sources := crates.txt $(shell find crates -name out -prune -o -type f -print)
 
+# What was begun and failed is made again.
+.DELETE_ON_ERROR:
+
 .PHONY: all run library page install install-program install-library uninstall dist doc test bench \
     clean
 
@@ -32,11 +35,14 @@ run: all
 	./gamefile canon examples/battle-of-the-sexes.nfg
 
 # library/out, and the Python package, which takes the shared object along.
-library: library/out/libgamefile.so.1
+library: library/out/libgamefile.so.1 python/gamefile/libgamefile.so.1
 
 library/out/libgamefile.so.1: $(sources) $(wildcard library/gamefile.*) library/build
 	./prove gamefile_c
 	library/build
+
+python/gamefile/libgamefile.so.1: library/out/libgamefile.so.1
+	cp library/out/libgamefile.so.1 python/gamefile/
 
 # page/out, of what was proved for the library.
 page: library/out/libgamefile.so.1
@@ -69,7 +75,7 @@ uninstall:
 	    pkgconfig/gamefile.pc)
 
 # With the page, if it was built or is asked for too, as in `make page dist`.
-dist: release/out/gamefile library/out/libgamefile.so.1 \
+dist: release/out/gamefile library/out/libgamefile.so.1 python/gamefile/libgamefile.so.1 \
     $(if $(filter page,$(MAKECMDGOALS))$(wildcard page/out/index.html),page)
 	rm -rf dist
 	release/build dist

@@ -22,6 +22,6 @@ for path in sys.argv[1:]:
     }
     print(f"{path:47} {len(game):9} bytes", end="")
     for name, call in calls.items():
-        best = min(timeit.repeat(call, time.process_time, number=CALLS, repeat=ROUNDS)) / CALLS
+        best = min(timeit.repeat(call, timer=time.process_time, number=CALLS, repeat=ROUNDS)) / CALLS
         print(f"  {name} {best * 1e6:.1f} us", end="")
     print()

@@ -116,7 +116,8 @@ gamefile_status gamefile_hash(const uint8_t *in, size_t n, unsigned flags, char 
 
 /* Writes the strategic form of a tree, with exact expected payoffs; for a strategic file, its
  * canonical text. Flags: 0 or GAMEFILE_REDUCED. After GAMEFILE_OVERFLOW, `profile` is the first
- * profile that overflows, counted from 1. The buffer and `needed` are as in gamefile_canonical. */
+ * profile that overflows, counted from 1. `needed` is as in gamefile_canonical, but a table may be far
+ * longer than its tree: if the call returns GAMEFILE_TOO_SMALL, call again with `needed` bytes. */
 gamefile_status gamefile_table(const uint8_t *in, size_t n, unsigned flags, uint8_t *out, size_t cap,
                                size_t *needed, gamefile_fault *fault, uint64_t *profile);
 

@@ -175,14 +175,16 @@ class Comparison {
     // The first profile whose payoffs differ; null if players or strategies do.
     differentProfile([a, b]) {
         if (!areEqual([a.players, a.strategies], [b.players, b.strategies])) return null;
-        const from = a.lines[0], at = firstDifference(a.bytes.subarray(from), b.bytes.subarray(b.lines[0])) + from;
-        return Math.min(Math.max(0, lastUpTo(a.lines, a.profiles, at)), a.profiles - 1);
+        const [ours, theirs] = [a, b].map(it => it.bytes.subarray(it.lines[0])), at = firstDifference(ours, theirs);
+        // The payoffs are the same: it is labels, in bytes that are not UTF-8.
+        if (at === ours.length) return null;
+        return Math.min(Math.max(0, lastUpTo(a.lines, a.profiles, at + a.lines[0])), a.profiles - 1);
     }
 
     profile(table, place) {
         const chosen = (it, i) => `${table.playerName(i + 1)} ${strategyOf(table, i + 1, it)}`;
         const words = table.profileAt(place).map(chosen).join(", ");
-        return el("p", {}, `The first profile with other payoffs is marked: ${words}.`);
+        return el("p", {}, `The first profile at which the payoffs differ is marked: ${words}.`);
     }
 
     otherLabels([a, b]) {

@@ -19,7 +19,7 @@ class GameFile {
     answer(key, signal, ask) {
         const { answers } = this;
         if (!answers.has(key)) {
-            const forget = () => answers.delete(key), asked = ask();
+            const asked = ask(), forget = () => answers.get(key) === asked && answers.delete(key);
             answers.set(key, asked);
             signal.addEventListener("abort", forget);
             asked.then(() => signal.removeEventListener("abort", forget), forget);
@@ -75,24 +75,30 @@ function pastedFile(text) {
 // Calls `take` with the files that are opened, dropped or pasted.
 function listen(take) {
     const open = byId("open"), { classList } = document.body;
+    // Whether it is a text for a box that can be edited, which is left to the browser.
+    const isForBox = (event, data) => {
+        const box = event.target.closest?.("textarea, input");
+        return !data.types.includes("Files") && box && !box.readOnly;
+    };
     open.addEventListener("change", async () => {
         const files = await readFiles(open.files);
         open.value = "";
         take(files);
     });
     document.addEventListener("dragover", event => {
+        if (isForBox(event, event.dataTransfer)) return;
         event.preventDefault();
         classList.add("over");
     });
     document.addEventListener("dragleave", event => event.relatedTarget || classList.remove("over"));
     document.addEventListener("drop", event => {
-        event.preventDefault();
         classList.remove("over");
+        if (isForBox(event, event.dataTransfer)) return;
+        event.preventDefault();
         takeFrom(event.dataTransfer, take);
     });
     document.addEventListener("paste", event => {
-        const box = event.target.closest?.("textarea, input");
-        if (event.clipboardData.files.length === 0 && box && !box.readOnly) return;
+        if (isForBox(event, event.clipboardData)) return;
         event.preventDefault();
         takeFrom(event.clipboardData, take);
     });

@@ -73,7 +73,11 @@ class Page {
         const at = this.files.indexOf(file);
         this.files.splice(at, 1);
         if (this.other === file) this.other = null;
-        if (this.current !== file) return this.showFiles();
+        if (this.current !== file) {
+            this.showFiles();
+            if (this.tab === "compare") this.show();
+            return;
+        }
         if (this.files.length === 0) this.files.push(new GameFile("untitled.efg", new Uint8Array()));
         const next = this.files[Math.min(at, this.files.length - 1)];
         if (next.state === "waiting") this.judge(next);
@@ -85,8 +89,13 @@ class Page {
         const file = this.current;
         file.setBytes(bytes);
         file.isExample = file.isFirst = this.bringsPlace = false;
-        clearTimeout(this.pause);
-        this.pause = setTimeout(() => this.judge(file), PAUSE);
+        // What is being worked out for the text as it was is not shown any more.
+        this.showing.abort();
+        this.showing = new AbortController();
+        clearTimeout(file.pause);
+        file.judged = new Promise(done => {
+            file.pause = setTimeout(() => done(this.judge(file)), PAUSE);
+        });
     }
 
     // Judging ---------------------------------------------------------------------------------------------
@@ -126,6 +135,7 @@ class Page {
 
     choose(file) {
         this.current = file;
+        byId("notice").textContent = "";
         byId("source").value = "";
         // The menu shows the current example, so that arrow keys go on from there.
         byId("examples").value = file.isExample ? file.name : "";
@@ -142,15 +152,15 @@ class Page {
     }
 
     say(words) {
-        byId("said").textContent = words;
-        byId("view").prepend(el("p", { class: "bad" }, words));
+        byId("said").textContent = byId("notice").textContent = words;
     }
 
     showFiles() {
         const list = byId("files"), focused = document.activeElement;
         const at = [...list.querySelectorAll("button")].indexOf(focused);
         list.replaceChildren(...this.files.map(it => this.entry(it)));
-        list.querySelectorAll("button")[at]?.focus();
+        const buttons = list.querySelectorAll("button");
+        if (at >= 0) buttons[Math.min(at, buttons.length - 1)].focus();
     }
 
     // A file in the list.
@@ -255,7 +265,7 @@ class Page {
 
 const capital = words => words.replace(/^./, it => it.toUpperCase());
 
-const UNSUPPORTED = "This browser cannot run the page: it needs WebAssembly with a memory of 64 bits, which Chromium "
+const UNSUPPORTED = "This browser cannot run the page: it needs WebAssembly with 64-bit memory (Memory64), which Chromium "
     + "has from version 133 on and Firefox from 134 on";
 
 async function start() {
@@ -271,9 +281,10 @@ async function start() {
     const page = new Page(engine);
     page.listen();
     if (!await page.takeLink()) {
-        const first = page.example("selten-horse.efg");
+        const first = page.example("selten-horse.efg"), words = byId("notice").textContent;
         first.isFirst = true;
         page.choose(first);
+        if (words !== "") page.say(words);
     }
     document.body.dataset.ready = "yes";
 }

@@ -40,8 +40,8 @@ class SourceView {
 
     whyReadOnly() {
         const { from, to } = this.part, all = this.file.bytes.length;
-        if (to - from < all) return `Bytes ${grouped(from)} to ${grouped(to)} of ${grouped(all)}, to read only.`;
-        return "Not all of it is UTF-8 with usual line ends: it is shown as far as it can be, to read only.";
+        if (to - from < all) return `Bytes ${grouped(from)} to ${grouped(to)} of ${grouped(all)}, read-only.`;
+        return "Not all of it is UTF-8 with usual line ends: it is shown as far as possible, and is read-only.";
     }
 
     // The bytes of a text of the box.

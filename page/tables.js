@@ -131,7 +131,10 @@ class TableViewer {
         if (count > MOST_CHOICES) {
             const box = el("input", { type: "number", min: 1, max: count, value: chosen + 1 });
             const inside = () => Math.min(count, Math.max(1, Math.round(Number(box.value)) || 1));
-            box.addEventListener("change", () => take(inside() - 1));
+            box.addEventListener("change", () => {
+                box.value = inside();
+                take(box.value - 1);
+            });
             return el("label", {}, name, box);
         }
         const menu = el("select", { change: () => take(menu.selectedIndex) });

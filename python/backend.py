@@ -22,7 +22,7 @@ SHARED_OBJECT = "libgamefile.so.1"
 # A wheel is for the machine that it is built on, unless the settings name another platform.
 PLATFORM = "linux_x86_64"
 # A wheel has no times before 1980.
-EPOCH = int(os.environ.get("SOURCE_DATE_EPOCH", 315_532_800))
+EPOCH = max(int(os.environ.get("SOURCE_DATE_EPOCH") or 0), 315_532_800)
 METADATA = f"""\
 Metadata-Version: 2.1
 Name: {NAME}

@@ -267,16 +267,18 @@ def refuse_links(view):
     """A link that is broken or too large is refused, and none is made of a game that is too long."""
     view.start("#game=AAAA")
     judge("a link that is broken", "cannot be read" in view.text("#said"), view.text("#said"))
+    judge("a link that is broken, in sight", "cannot be read" in view.text("#notice"), view.text("#notice"))
     letters = view.do(ZEROS).replace("+", "-").replace("/", "_").rstrip("=")
     view.start(f"#game={letters}")
     judge("a link of 32 MiB", "larger than 16 MiB" in view.text("#said"), view.text("#said"))
+    judge("a link of 32 MiB, in sight", "larger than 16 MiB" in view.text("#notice"), view.text("#notice"))
     numbers = random.Random(3)
     payoffs = " ".join(str(numbers.randrange(10**9)) for _ in range(4000))
     view.open(view.made("long.nfg", f'NFG 1 R "" {{ "A" }} {{ 4000 }} {payoffs}'))
     view.tab("Canonical text")
     view.press("Copy link with this game", "#view")
     view.until(lambda: "too long for a link" in view.text("#said"))
-    judge("a game that is too long for a link", "too long for a link" in view.text("#view .bad"))
+    judge("a game that is too long for a link", "too long for a link" in view.text("#notice"))
 
 
 # Tries to load an image, to fetch a file, and to run a script.

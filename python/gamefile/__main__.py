@@ -296,7 +296,7 @@ def parser() -> Parser:
         of_many.add_argument("files", metavar="FILE|FOLDER", nargs="*")
     for explaining in (canon, checks, tables, sames, hashes):
         explaining.add_argument("--explain", action="store_true", help="say what is wrong, and where")
-    tables.add_argument("--reduced", action="store_true", help="leave out choices that cannot matter")
+    tables.add_argument("--reduced", action="store_true", help="leave out choices at sets that the player has ruled out")
     sames.add_argument("a", metavar="A")
     sames.add_argument("b", metavar="B")
     names = sames.add_mutually_exclusive_group()
@@ -311,8 +311,15 @@ def parser() -> Parser:
     return top
 
 
+def options_first(words: List[str]) -> List[str]:
+    """The words with all options before the files, between which argparse takes none. No option has a value."""
+    end = words.index("--") if "--" in words else len(words)
+    ordered = sorted(words[1:end], key=lambda it: it == "-" or not it.startswith("-"))
+    return [*words[:1], *ordered, *words[end:]]
+
+
 def main(words: List[str]) -> int:
-    options = parser().parse_args(words or ["canon"])
+    options = parser().parse_args(options_first(words or ["canon"]))
     try:
         with explained(options.explain):
             status: int = options.run(options)

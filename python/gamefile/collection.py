@@ -74,7 +74,7 @@ def _entry(path: str, names: bool) -> Entry:
         refusal._keep_hint()
         return Entry(file, None, refusal.with_traceback(None))
     except (OSError, MemoryError) as error:
-        return Entry(file, None, error)
+        return Entry(file, None, error.with_traceback(None))
 
 
 def _entries(paths: List[str], names: bool) -> List[Entry]:

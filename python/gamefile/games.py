@@ -6,7 +6,7 @@ from typing import Dict, Literal, NamedTuple, Optional, Tuple
 
 from . import _library
 from ._inputs import Input, Source
-from .errors import GameFileError, TableError
+from .errors import GameFileError, TableError, shown
 
 __all__ = ["Renumbering", "canonical", "check", "explain", "key", "renumbering", "same", "table"]
 
@@ -99,7 +99,7 @@ def explain(data: Source, *, name: Optional[str] = None) -> Optional[str]:
     """
     if name is None:
         name = os.fspath(data) if isinstance(data, os.PathLike) else "<input>"
-    called = os.fsencode(name)
+    called = shown(name).encode()
     fault = _library.Fault()
     with Input(data) as game:
         needed = ctypes.c_size_t(len(called) + _ROOM_OF_WORDS)

@@ -58,6 +58,7 @@ def test_one_file():
 def test_several_files():
     files = some_files()
     judge(["hash", *files, "missing"])
+    judge(["hash", files[0], "--no-names", files[1]])
     judge(["hash", "--no-names", TESTS / "corpus"])
     judge(["hash", f"{TESTS}/./corpus/", files[0]])
 

@@ -150,7 +150,8 @@ def judge_names():
             path.write_bytes(b'EFG 2 R "" { "A" } t "" 1')
             ran = subprocess.run([PROGRAM, "check", "--explain", path], capture_output=True, timeout=60)
             failed += [] if gamefile.explain(path) == ran.stderr.decode() else [f"explain of {name!r}"]
-    for name, shown in ((None, "<input>"), ("a\udcffb", "a\ufffdb"), ("\udcff" * 2000, "\ufffd" * 2000)):
+    names = (None, "<input>"), ("a\udcffb", "a\ufffdb"), ("\udcff" * 2000, "\ufffd" * 2000)
+    for name, shown in (*names, ("a\0b", "a?b"), ("x\ud800", "x\ufffd")):
         found = gamefile.explain(b"", name=name)
         failed += [] if found.startswith(f"{shown}:1:1: E3 at 0..0: ") else [f"explain by the name {name!r}"]
     return failed

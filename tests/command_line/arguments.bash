@@ -11,6 +11,13 @@ check_usage() { # WORD..
     fi
 }
 
+# Wrong usage that is told in the program's own words.
+check_told() { # SENTENCE HELP WORD..
+    run "${@:3}" <"$nothing"
+    printf "error: %s\n\nFor more information, try '%s'.\n" "$1" "$2" >"$scratch/expected"
+    judge "what is said of '${*:3}'" "$nothing" "$scratch/expected" 3
+}
+
 # Help begins with the version, and no line of it is longer than a terminal's.
 check_help() { # WORD..
     run "$@" <"$nothing"
@@ -66,6 +73,12 @@ check_words() {
         run $words <"$nothing"
         judge_lines "words '$words'" 0 "gamefile $version"
     done
+    check_told "'--check' cannot be used with '--write'" "gamefile help canon" canon --check --write a
+    check_told "'--write' needs files: standard input cannot be replaced" "gamefile help canon" canon --write
+    check_told "'--quiet' needs '--check' or '--write'" "gamefile help canon" canon --quiet a
+    check_told "'canon' writes the text of one file: for several, give '--check' or '--write'" \
+        "gamefile help canon" canon a b
+    check_told "an argument is not UTF-8" --help canon $'\xff.efg'
     check_hint
     check_own_name
 }
@@ -74,14 +87,15 @@ check_words() {
 # not for any other word.
 check_hint() {
     local word expected
-    for word in a.efg folder/a.nfg tree a.txt $'a\tb.efg' .efg.; do
+    for word in a.efg folder/a.nfg A.EFG - tree a.txt $'a\tb.efg' .efg.; do
         expected=0
         case $word in
-        a.efg | folder/a.nfg) expected=1 ;;
+        a.efg | folder/a.nfg | A.EFG | -) expected=1 ;;
         esac
         run "$word" <"$nothing"
         if [[ $status == 3 && ! -s $scratch/out ]] && grep -q '^Usage: ' "$scratch/err" &&
-            [[ $(tail -n 1 "$scratch/err" | grep -c "gamefile canon $word\$") == "$expected" ]]; then
+            [[ $(grep -c 'gamefile canon ' "$scratch/err") == "$expected" ]] && { ((expected == 0)) ||
+            [[ $(tail -n 1 "$scratch/err") == "For its canonical text: gamefile canon $word" ]]; }; then
             passed=$((passed + 1))
         else
             fail "argument '$word': $expected hints are expected"

@@ -62,11 +62,7 @@ check_rewritten() { # FOLDER
     local folder=$1 five=$1/five.efg text=$1/text.efg refused=$1/refused.nfg before owner
     cp "$scratch/refused.nfg" "$refused"
     chmod 640 "$five"
-    if ((EUID == 0)); then
-        chown 65534:65534 "$five"
-    else
-        echo "NOT RUN canon --write, owner: only root may give a file away"
-    fi
+    ((EUID != 0)) || chown 65534:65534 "$five"
     owner=$(stat -c %u:%g "$five")
     touch -d 2001-01-01 "$text" "$refused"
     before=$(state_of "$text" && state_of "$refused")
@@ -79,9 +75,13 @@ check_rewritten() { # FOLDER
     [[ -L $folder/linked.efg && $(stat -c %a "$five") == 640 && $before == "$(state_of "$text" && state_of "$refused")" ]]
     status=$?
     judge "canon --write: the file behind a link, with its permissions, and no other" "$scratch/lines" "$nothing" 0
-    [[ $(stat -c %u:%g "$five") == "$owner" ]]
-    status=$?
-    judge "canon --write: the file stays its owner's" "$scratch/lines" "$nothing" 0
+    if ((EUID == 0)); then
+        [[ $(stat -c %u:%g "$five") == "$owner" ]]
+        status=$?
+        judge "canon --write: the file stays its owner's" "$scratch/lines" "$nothing" 0
+    else
+        echo "NOT RUN canon --write, owner: only root may give a file away"
+    fi
     rm "$refused"
     cp "$accepted.nfg" "$folder/other.nfg"
     run canon --write "$folder"
@@ -114,9 +114,31 @@ check_not_rewritten() { # FOLDER
     mkfifo "$pipe"
     cat "$scratch/five.efg" >"$pipe" &
     run canon --write "$pipe"
+    kill $! 2>/dev/null
     wait
     judge_refusal "canon --write of a pipe" "$pipe: E21" 4
+    check_half_written "$1"
     check_too_long "$1"
+}
+
+# A text of which only the first KiB can be written.
+check_half_written() { # FOLDER
+    local folder=$1/half tree=$1/half/tree.efg
+    mkdir "$folder"
+    tree_file 100 >"$tree"
+    cp "$tree" "$scratch/before"
+    status=0
+    (
+        trap '' XFSZ
+        ulimit -f 1
+        exec timeout 60 "$program" canon --write "$tree"
+    ) >"$scratch/out" 2>"$scratch/err" || status=$?
+    printf '%s: E21\n' "$tree" >"$scratch/expected"
+    judge "canon --write of a text that does not fit" "$nothing" "$scratch/expected" 4
+    cp "$tree" "$scratch/out" && : >"$scratch/err" && status=0
+    judge "canon --write of a text that does not fit: the file stays" "$scratch/before" "$nothing" 0
+    ls -A "$folder" >"$scratch/out"
+    judge_lines "canon --write of a text that does not fit leaves no other files" 0 tree.efg
 }
 
 # A file of 2 MB whose canonical text has 42 MB: one outcome, at 2^20 profiles.

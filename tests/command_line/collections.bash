@@ -114,9 +114,11 @@ check_vanishing() { # FOLDER
     {
         rm "$1/z.efg"
         cat "$scratch/five.efg"
-    } >"$pipe"
+    } >"$pipe" &
     status=0
     wait "$reader" || status=$?
+    kill $! 2>/dev/null
+    wait
     echo "$1/z.efg: E20" >"$scratch/expected"
     judge "hash of a folder with a file that goes" "$scratch/more" "$scratch/expected" 4
     rm "$pipe" "$1/A.efg"
@@ -273,7 +275,8 @@ check_dash() {
 run_at_terminal() { # OUTPUT WORD..
     mkfifo "$scratch/late.efg"
     python3 - "$scratch" "$1" "$program" "${@:2}" <<'END'
-import os, pty, subprocess, sys, time
+import os, pty, signal, subprocess, sys, time
+signal.alarm(60)
 scratch, to, *words = sys.argv[1:]
 ours, theirs = pty.openpty()
 output = theirs if to == "there" else subprocess.PIPE
@@ -486,4 +489,6 @@ Host one two
     LogLevel ERROR
 END
     /usr/sbin/sshd -f "$ssh/server" -E "$ssh/log"
+    # It goes to the background before it listens, and writes this file when it does.
+    timeout 60 bash -c 'until [[ -s $1 ]]; do sleep 0.1; done' bash "$ssh/pid"
 }

@@ -16,19 +16,19 @@ kind_of() { # GAME-FILE
 }
 
 check_case() { # GAME-FILE
-    local base=${1%.*} expected=0 kind=$nothing
+    local base=${1%.*} expected=0 kind=$nothing text=$nothing refusal=$nothing
     if [[ -e $base.err ]]; then
-        expected=2
+        expected=2 refusal=$base.err
     else
-        kind=$scratch/kind
+        text=$base.out kind=$scratch/kind
         kind_of "$1" >"$kind"
     fi
     run <"$1"
-    judge "${1##*/}" "$base.out" "$base.err" "$expected"
+    judge "${1##*/}" "$text" "$refusal" "$expected"
     run canon "$1" <"$nothing"
-    judge "canon ${1##*/}" "$base.out" "$base.err" "$expected"
+    judge "canon ${1##*/}" "$text" "$refusal" "$expected"
     run check "$1" <"$nothing"
-    judge "check ${1##*/}" "$kind" "$base.err" "$expected"
+    judge "check ${1##*/}" "$kind" "$refusal" "$expected"
 }
 
 # Canonical text canonises to itself.

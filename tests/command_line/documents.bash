@@ -84,12 +84,13 @@ check_hooks() {
 
 # Counts what another script passes and fails, which its last line says.
 check_by() { # SCRIPT WORD..
-    local summary
-    summary=$("$root/tests/$1" "${@:2}")
+    local summary ended=0
+    summary=$("$root/tests/$1" "${@:2}") || ended=$?
     printf '%s\n' "$summary" | grep -v "^$1: "
     if [[ $summary =~ $1:\ ([0-9]+)\ passed,\ ([0-9]+)\ failed$ ]]; then
         passed=$((passed + BASH_REMATCH[1]))
         failed=$((failed + BASH_REMATCH[2]))
+        ((ended == 0 || BASH_REMATCH[2] > 0)) || fail "tests/$1: its status is $ended"
     else
         fail "tests/$1: it has no last line"
     fi
@@ -100,5 +101,10 @@ check_by() { # SCRIPT WORD..
 check_documents() {
     check_hooks
     check_by links
-    check_by transcripts README.md examples/README.md docs/COLLECTIONS.md CONTRIBUTING.md
+    check_by transcripts README.md examples/README.md docs/COLLECTIONS.md
+    # (tests/library runs those of docs/LIBRARY.md)
+    (cd "$root" && grep -l '^\$ ' *.md docs/*.md examples/*.md python/*.md) >"$scratch/out"
+    : >"$scratch/err"
+    status=0
+    judge_lines "documents that show commands" 0 README.md docs/{COLLECTIONS,LIBRARY}.md examples/README.md
 }

@@ -1,7 +1,6 @@
 # shellcheck shell=bash disable=SC2034,SC2154
-# `--explain`, of what is no place in a file. tests/explained has all refusals.
+# `--explain`, of what is no place in a file, and of two files. tests/explained has all refusals.
 
-# Explanations of what is no place in a file, and of two files. tests/explained has all refusals.
 check_explain() {
     local a=$scratch/five.efg b=$scratch/refused.nfg missing=$scratch/missing.efg words command
     words="E20: cannot open $missing: No such file or directory (os error 2)"

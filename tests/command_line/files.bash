@@ -54,8 +54,8 @@ check_files() {
     run canon ./- <"$accepted.nfg"
     judge_refusal "a file named -" "E20" 4
     python3 -c 'import socket, sys; socket.socket(socket.AF_UNIX).bind(sys.argv[1])' "$socket"
-    run check "$socket"
-    judge_refusal "a socket" "E20" 4
+    run check --explain "$socket"
+    judge_refusal "a socket" "E20: cannot open $socket: No such device or address (os error 6)" 4
     cp "$accepted.nfg" "$closed"
     chmod a= "$closed"
     run_as_nobody check "$closed"
@@ -141,7 +141,8 @@ check_openings() {
         # shellcheck disable=SC2086
         run same $options "$a" "$b"
         printf 'same\n' >"$scratch/lines"
-        [[ $options != --map ]] || "$program" same --map "$scratch/five.efg" "$scratch/five.efg" >"$scratch/lines"
+        [[ $options != --map ]] ||
+            printf '%s\n' "set 0 9 9" "set 1 7 7" "set 1 3 3" "outcome 4 4" >>"$scratch/lines"
         judge "same ${options:-without options}: both files are opened before either is read" \
             "$scratch/lines" "$nothing" 0
         kill $! 2>/dev/null

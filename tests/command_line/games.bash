@@ -1,7 +1,6 @@
 # shellcheck shell=bash disable=SC2034,SC2154
 # Small games in files of their own, for `same` and for collections.
 
-# Games in files of their own, for `same`.
 write_games() {
     cat >"$scratch/five.efg" <<'END'
 EFG 2 R "five" { "A" }

@@ -33,20 +33,11 @@ fail() { # MESSAGE
     printf 'FAILED %s\n' "$1"
 }
 
-# Whether a file has the bytes of the expected one; an absent one stands for none.
-has_bytes() { # EXPECTED FILE
-    if [[ -e $1 ]]; then
-        cmp -s "$1" "$2"
-    else
-        [[ ! -s $2 ]]
-    fi
-}
-
 # Compares what the last run left with what is expected.
 judge() { # NAME OUT-FILE ERR-FILE STATUS
     local differs=""
-    has_bytes "$2" "$scratch/out" || differs+="; standard output differs"
-    has_bytes "$3" "$scratch/err" || differs+="; standard error is '$(head -c 200 "$scratch/err" | tr -cd '[:print:]')'"
+    cmp -s "$2" "$scratch/out" || differs+="; standard output differs"
+    cmp -s "$3" "$scratch/err" || differs+="; standard error is '$(head -c 200 "$scratch/err" | tr -cd '[:print:]')'"
     [[ $status == "$4" ]] || differs+="; status is $status and not $4"
     if [[ -n $differs ]]; then
         fail "$1${differs/;/:}"
