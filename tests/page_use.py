@@ -195,6 +195,9 @@ def find_different(view):
     answer = compare_with(view, DILEMMA, other)
     judge("tables that are not the same", "are not the same game" in answer, answer)
     judge("the profile where they differ", len(view.all("td.marked")) == 2, view.text(".comparison"))
+    answer = compare_with(view, *(view.made(f"{it}.nfg", b'NFG 1 R "" { "%c" } { 2 } 1 2' % it) for it in (254, 255)))
+    judge("tables whose labels are not UTF-8", "are not the same game" in answer, answer)
+    judge("where they differ", "bytes that are not UTF-8" in view.text(".comparison"), view.text(".comparison"))
     answer = compare_with(view, POKER, EXAMPLES / "stag-hunt.nfg")
     judge("a tree and a table", "are not the same game" in answer, answer)
     judge(
