@@ -55,7 +55,7 @@ fn run(rt: &HostRuntime, request: &Request) -> u8 {
     let mut output = Counted::new(Erasing::new(rt.stdout(), erases));
     let mut errors = Counted::new(Erasing::new(rt.stderr(), shows));
     perform(
-        rt,
+        rt.alloc(),
         &mut inputs,
         request,
         &mut progress,

@@ -1,8 +1,8 @@
 pub mod Duplicates
 pub mod LedTo
 pub mod Lines
+pub mod Listed
 pub mod Opening
 pub mod Performs
 pub mod Reports
 pub mod Wrapped
-pub mod inner

@@ -18,6 +18,7 @@ use Rattle.gf_run.specs.Texts.{AreCanonical, kind_line}
 use Rattle.gf_run.specs.Transfers.{IsNotRead, IsReadWhole}
 use Rattle.gf_run.specs.declared.fault.RunFault.{RunFault}
 use Rattle.gf_run.specs.declared.fault.Which.{Which}
+use Rattle.gf_jobs.specs.Listed.{end_byte}
 use Rattle.gf_jobs.specs.declared.collections.line.FileLine.{FileLine}
 use Rattle.gf_jobs.specs.declared.jobs.one_file.OneTask.{OneTask}
 
@@ -25,8 +26,7 @@ use Rattle.gf_jobs.specs.declared.jobs.one_file.OneTask.{OneTask}
 
 -- what ends a line
 abbrev pub end_text : LineEnd → List ℕ
-end_text LineEnd.LineFeed = codes "\n"
-end_text LineEnd.Null = 0 ∷ []
+end_text end = end_byte end ∷ []
 
 -- a line feed, a carriage return or a backslash
 abbrev pub is_escaped : ℕ → Bool

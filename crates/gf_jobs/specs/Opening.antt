@@ -1,17 +1,22 @@
--- What is opened for a job.
-use Rattle.std.specs.Prelude.{◌≡◌, ℕ, if◌then◌else◌, List, codes, Option, Some, None, Result, Ok}
+-- What is looked at and opened for a job.
+use Rattle.std.specs.Prelude.{◌≡◌, ℕ, if◌then◌else◌, Bool, List, codes, Option, Some, None, Result, Ok}
 use Rattle.std.specs.Prelude.{Err, ⊤}
 use Rattle.std.specs.Str.{bytes_eq}
 use Rattle.std.specs.String.{string_bytes}
 use Rattle.std.specs.declared.io.Error.{Error}
 use Rattle.gf_words.specs.declared.job.Input.{Input}
 use Rattle.gf_jobs.specs.declared.collections.file.CollectionFile.{CollectionFile}
+use Rattle.gf_jobs.specs.declared.opening.inputs.Found.{Found}
 use Rattle.gf_jobs.specs.declared.opening.inputs.Unreplaced.{Unreplaced}
 
--- What opens inputs, and puts texts in the place of files. Each relation is between the state before,
--- what is returned, and the state after; before what is returned come a file's name and, to replace
--- it, the text.
+-- What shows which files there are, opens inputs, and puts texts in the place of files. `found` is
+-- between the state, a path and what is there; `listed` between the state, the path of a folder, the
+-- names in it and whether these are all. Each of the others is between the state before, what is
+-- returned, and the state after; before what is returned come a file's name and, to replace it, the
+-- text.
 pub record Opener (I S : Type 0) : Type 1 where
+  pub found : I → List ℕ → Found → Type 0
+  pub listed : I → List ℕ → List (List ℕ) → Bool → Type 0
   pub standard : I → S → I → Type 0
   pub file : I → List ℕ → Result S Error → I → Type 0
   pub replaced : I → List ℕ → List ℕ → Result ⊤ Unreplaced → I → Type 0

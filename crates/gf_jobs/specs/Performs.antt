@@ -1,6 +1,7 @@
 -- What the program does for each job, and for the files of a collection one after another.
 use Rattle.std.specs.Prelude.{◌≡◌, ◌≢◌, ◌⊎◌, ℕ, Bool, max, List, [], ◌∷◌, ◌++◌, Option, Some, None}
-use Rattle.std.specs.Prelude.{Result, Ok, Err, IsOk, ⊤, true, false, codes, if◌then◌else◌}
+use Rattle.std.specs.Prelude.{Result, Ok, Err, IsOk, ⊤, true, false, codes, if◌then◌else◌, map}
+use Rattle.std.specs.Prelude.{IfSome, MatchResult}
 use Rattle.std.specs.List.{flat_map}
 use Rattle.std.specs.String.{string_bytes}
 use Rattle.std.specs.declared.io.Error.{Error}
@@ -17,6 +18,7 @@ use Rattle.gf_jobs.specs.Duplicates.{are_apart, duplicates, groups_text, HashedF
 use Rattle.gf_run.specs.Faults.{IsRefusal, answer_status, is_of_second}
 use Rattle.gf_run.specs.Transfers.{IsNotRead, IsReadWhole}
 use Rattle.gf_jobs.specs.LedTo.{AreFilesOf}
+use Rattle.gf_jobs.specs.Listed.{names_in}
 use Rattle.gf_jobs.specs.Opening.{Opener, Opens, OpensFile, OpensNamed, file_of}
 use Rattle.gf_jobs.specs.Reports.{Ends, IsReported, IsSent, IsNamedReport, called, name_of}
 use Rattle.gf_run.specs.Run.{Reads, RunsTwo, Writes}
@@ -26,7 +28,7 @@ use Rattle.gf_run.specs.Texts.{AreCanonical, IsAnswer, IsLine, IsLineAndMap}
 use Rattle.gf_jobs.specs.Lines.{after_name}
 use Rattle.gf_jobs.specs.Wrapped.{bytes_kept, kept_at_first, kept_reader, source_of}
 use Rattle.gf_jobs.specs.declared.collections.file.CollectionFile.{CollectionFile}
-use Rattle.gf_jobs.specs.declared.collections.folders.Repeats.{Repeats}
+use Rattle.gf_jobs.specs.declared.collections.kept_files.Repeats.{Repeats}
 use Rattle.gf_jobs.specs.declared.collections.line.FileLine.{FileLine}
 use Rattle.gf_jobs.specs.declared.explain.Failed.{Failed}
 use Rattle.gf_run.specs.declared.fault.RunFault.{RunFault}
@@ -201,11 +203,25 @@ abbrev pub repeats_of : Task → Repeats
 repeats_of (Task.Duplicates names end) = Repeats.PassedOver
 repeats_of task = Repeats.Kept
 
--- why the files may not be known: memory ran out, or a list of names could not be read
-abbrev pub IsUnlisted : Paths → RunFault → Type 0
-IsUnlisted paths RunFault.Memory = Unit {0}
-IsUnlisted (Paths.List list end) (RunFault.Read Which.Only) = Unit {0}
-IsUnlisted paths fault = ⊥
+-- for what opens inputs, and what an input shows: which names lead to the files, and what is opened to
+-- know them
+module _ {I S : Type 0} (opener : Opener I S) (reader : Stream S) where
+  -- they are the words that were given, or `-` if there are none; or those in a list, which is opened
+  -- once, and whose bytes are known if it reports them
+  abbrev pub AreNames : Paths → List (List ℕ) → I → I → Type 0
+  AreNames Paths.Standard names i i' = (names ≡ codes "-" ∷ []) × (i' ≡ i)
+  AreNames (Paths.Named words) names i i' = (names ≡ map string_bytes words.items) × (i' ≡ i)
+  AreNames (Paths.List list end) names i i' = (s : S) × Opens opener (file_of list) i (Ok s) i'
+      × IfSome (reader.known s) (λ bytes. names ≡ names_in end bytes)
+
+-- for what opens inputs: why the files may not be known. Memory ran out; or a list, which was to be
+-- opened once, could not be opened, or was and could not be read.
+abbrev pub IsUnlisted : {I S : Type 0} → Opener I S → Paths → RunFault → I → I → Type 0
+IsUnlisted {S = S} opener (Paths.List list end) fault i i' = (answer : Result S Error)
+    × Opens opener (file_of list) i answer i' × MatchResult answer
+    (λ s. (fault ≡ RunFault.Memory) ⊎ (fault ≡ RunFault.Read Which.Only))
+    (λ error. fault ≡ RunFault.Read Which.Only)
+IsUnlisted opener paths fault i i' = (fault ≡ RunFault.Memory) × (i' ≡ i)
 
 -- It was reported why no file is opened: a list could not be read, which is said after its name, and
 -- explained if `explain` is true; or memory ran out.
@@ -217,13 +233,6 @@ IsListReport errors explain fault paths = IsReported errors [] None fault
 -- what is said of folders that have no game files: a line for each
 abbrev pub without_games : List (List ℕ) → List ℕ
 without_games folders = flat_map (λ folder. after_name folder (codes "no game files\n")) folders
-
--- for what opens inputs: what is opened to find the files of a collection. A list of names is
--- opened once, if it can be.
-abbrev pub ArePathsOpened : {I S : Type 0} → Opener I S → Paths → I → I → Type 0
-ArePathsOpened {S = S} opener (Paths.List list end) i i' =
-    (answer : Result S Error) × Opens opener (file_of list) i answer i'
-ArePathsOpened opener paths i i' = i' ≡ i
 
 -- ---- by the job
 
@@ -307,14 +316,14 @@ module _ {I S W E : Type 0} (opener : Opener I S) (reader : Stream S) (writer : 
       : Type 0 where
     -- the files are found, before any of them is opened; folders that were named and have none are
     -- reported, as far as the writer allowed; and the task was done for the files
-    found : (files : List CollectionFile) (folders : List (List ℕ)) (mid : World I W E)
-        → ArePathsOpened opener paths a.inputs mid.inputs → mid.output ≡ a.output
-        → AreFilesOf (repeats_of task) paths files folders
+    found : (names : List (List ℕ)) (files : List CollectionFile) (folders : List (List ℕ))
+        (mid : World I W E) → AreNames opener reader paths names a.inputs mid.inputs
+        → mid.output ≡ a.output → AreFilesOf opener mid.inputs (repeats_of task) names files folders
         → IsSent errors (without_games folders) a.errors mid.errors
         → Does task files status mid b → PerformsAll task paths status a b
     -- they are not, or memory for that report ran out, which was reported
-    unlisted : (fault : RunFault) → IsUnlisted paths fault
-        → ArePathsOpened opener paths a.inputs b.inputs → b.output ≡ a.output
+    unlisted : (fault : RunFault) → IsUnlisted opener paths fault a.inputs b.inputs
+        → b.output ≡ a.output
         → IsListReport errors explain fault paths status a.errors b.errors
         → PerformsAll task paths status a b
 

@@ -5,6 +5,7 @@ pub mod erasing;
 pub mod file;
 pub mod folders;
 pub mod groups;
+pub mod kept_files;
 pub mod line;
 pub mod lines;
 pub mod name;

@@ -11,7 +11,7 @@ mod opening;
 
 pub use collections::erasing::Erasing;
 pub use collections::file::CollectionFile;
-pub use collections::folders::Repeats;
+pub use collections::kept_files::Repeats;
 pub use collections::line::{FileLine, run_line};
 pub use collections::paths::{FoundFiles, files_at};
 pub use collections::progress::{Progress, Shown};
@@ -19,6 +19,6 @@ pub use explain::{Cause, Failed};
 pub use jobs::ending::{answer, report};
 pub use jobs::job::perform;
 pub use jobs::session::Session;
-pub use opening::inputs::{Inputs, Unreplaced};
+pub use opening::inputs::{Found, Identity, Inputs, Listing, Unreplaced};
 pub use opening::kept::Kept;
 pub use opening::opened::{HostInputs, Opened};

@@ -2,5 +2,6 @@
 
 pub mod inputs;
 pub mod kept;
+pub mod list;
 pub mod opened;
 pub mod replaced;

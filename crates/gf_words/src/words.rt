@@ -3,6 +3,7 @@
 ghost use Rattle.std.specs.Prelude.{◌≡◌, IfErr, IfOk, map, true};
 ghost use Rattle.clap.specs.Values.{kind_of};
 ghost use Rattle.gf_words.specs.CommandLine.{IsJobIn, IsRequestIn, are_taken};
+ghost use Rattle.gf_words.specs.GameNames.{is_game_name};
 
 use crate::fault::WordsFault;
 use crate::job::{Job, Request};
@@ -13,8 +14,9 @@ use clap::error::ErrorKind;
 use std::alloc::{AllocError, Global};
 
 /// Whether a name ends in `.efg` or `.nfg`, in upper or lower case.
-// No clause: it decides only which names are taken for those of games, as tests show.
-pub fn is_game_file(name: &str) -> bool {
+pub fn is_game_file(name: &str) -> bool
+    ensures { result ≡ is_game_name name.now }
+{
     let bytes = name.as_bytes();
     let end = &bytes[bytes.len().saturating_sub(4)..];
     end.eq_ignore_ascii_case(b".efg") || end.eq_ignore_ascii_case(b".nfg")

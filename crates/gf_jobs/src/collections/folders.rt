@@ -1,18 +1,17 @@
 //! The files that a path names: a file itself, or, for a folder, the game files below it.
 
-ghost use Rattle.std.specs.Prelude.{◌≡◌, ◌⊎◌, [], ◌++◌, List, ℕ, true, false, IfOk, OnOk};
+ghost use Rattle.std.specs.Prelude.{◌≡◌, ◌≢◌, ◌++◌, IfOk, List, OnOk, codes, map, reverse, ℕ};
 ghost use Rattle.std.specs.String.{string_bytes};
-ghost use Rattle.gf_jobs.specs.LedTo.{HasPath, LeadsTo, MayBePassedOver, folder_at};
-ghost use Rattle.gf_jobs.specs.inner.Followed.{Adds, IsFollowed, IsFrom};
+ghost use Rattle.gf_jobs.specs.LedTo.{AreIn, HasPath, LeadsTo, LooksAt, LooksAtPath, folder_at};
+ghost use Rattle.gf_jobs.specs.declared.collections.file.CollectionFile.{CollectionFile};
+ghost use Rattle.gf_jobs.specs.declared.opening.inputs.Found.{Found};
 
 use crate::collections::file::CollectionFile;
-use gf_words::{Input, LineEnd, is_game_file};
+use crate::collections::kept_files::{Fate, KeptFiles, kept_if};
+use crate::opening::inputs::{Found, Identity, Inputs, Listing};
+use gf_words::{Input, is_game_file};
 use std::alloc::{AllocError, Global};
 use std::collections::BTreeSet;
-use std::io::{BufRead, BufReader, ErrorKind, Read};
-use std::os::unix::fs::MetadataExt;
-use std::rt::Files;
-use std::{fs, io};
 
 /// The file of this name in a folder. One whose name is not UTF-8 cannot be opened.
 fn file_in(alloc: Global, folder: &[u8], name: &[u8]) -> Result<CollectionFile, AllocError>
@@ -27,101 +26,22 @@ fn file_in(alloc: Global, folder: &[u8], name: &[u8]) -> Result<CollectionFile, 
     }
 }
 
-/// Which file or folder something is: its device, and its number there.
-type Identity = (u64, u64);
-
-/// The files of a collection that are kept, as far as they are found.
-#[derive(Drop)]
-pub struct KeptFiles {
-    pub files: Vec<CollectionFile>,
-    /// Whether a folder's files are kept that come again, as by a link.
-    pub repeats: Repeats,
-    /// Which files came so far, if those that come again are passed over.
-    seen: BTreeSet<Identity>,
-}
-
-impl KeptFiles {
-    /// None yet.
-    // No edit: it puts parts together.
-    pub fn new(alloc: Global, repeats: Repeats) -> KeptFiles
-        ensures files { result.files.items ≡ [] }
-        ensures repeats { result.repeats ≡ repeats }
-    {
-        KeptFiles {
-            files: Vec::new(alloc),
-            repeats,
-            seen: BTreeSet::new(alloc),
-        }
-    }
-
-    /// Notes a file, and returns whether it comes for the first time, unless that does not matter.
-    fn note(&mut self, file: Identity) -> Result<bool, AllocError>
-        ensures repeats { self.new.repeats ≡ self.old.repeats }
-        ensures files { self.new.files ≡ self.old.files }
-        ensures seen { IfOk result (λ is_new. is_new ≡ false
-            → MayBePassedOver self.old.repeats self.old.files.items) }
-    {
-        match self.repeats {
-            Repeats::Kept => Ok(true),
-            // If none is kept, none came before.
-            Repeats::PassedOver => Ok(self.seen.insert(file)? || self.files.is_empty()),
-        }
-    }
-}
-
-/// Whether a file of a folder that came before, by another name, is kept.
-#[derive(Clone, Copy)]
-pub enum Repeats {
-    /// It is kept under each name.
-    Kept,
-    /// It is kept only under the first.
-    PassedOver,
-}
-
-/// Adds the names that a reader gives, each of which has this end. Before a line feed a carriage return
-/// may stand, and blank lines are passed over. Names that came before an error stay.
-pub(crate) fn push_names<R: Read + Drop>(
-    alloc: Global,
-    input: R,
-    end: LineEnd,
-    names: &mut Vec<Vec<u8>>,
-) -> io::Result<()> {
-    let is_line = matches!(end, LineEnd::LineFeed);
-    let last = if is_line { b'\n' } else { b'\0' };
-    for name in BufReader::new(alloc, input)?.split(alloc, last) {
-        let mut name = name?;
-        if is_line && name.as_slice().ends_with(b"\r") {
-            name.truncate(name.len() - 1);
-        }
-        if !(is_line && name.is_empty()) {
-            names.push(name)?;
-        }
-    }
-    Ok(())
-}
-
-/// Whether something was read whole, unless memory ran out.
-fn is_whole(read: io::Result<()>) -> Result<bool, AllocError> {
-    match read {
-        Ok(()) => Ok(true),
-        Err(error) if error.kind() == ErrorKind::OutOfMemory => Err(AllocError),
-        Err(_) => Ok(false),
-    }
-}
-
 /// Puts the files of these names in a folder before everything that waits, so that the first comes
 /// first. Hidden ones, whose names begin with a full stop, are left out.
 fn push_entries(
     alloc: Global,
-    folder: &str,
+    folder: &[u8],
     names: &[Vec<u8>],
     waiting: &mut Vec<CollectionFile>,
 ) -> Result<(), AllocError>
-    ensures { OnOk result (Adds folder.now waiting.old.items waiting.new.items) }
+    ensures { OnOk result ((inside : List CollectionFile)
+        × AreIn folder.now (map (λ name. name.items) names.now) inside
+        × (reverse waiting.new.items ≡ inside ++ reverse waiting.old.items)) }
 {
-    for name in names.iter().rev() {
-        if !name.as_slice().starts_with(b".") {
-            waiting.push(file_in(alloc, folder.as_bytes(), name.as_slice())?)?;
+    for place in (0..names.len()).rev() {
+        let name = names[place].as_slice();
+        if !name.starts_with(b".") {
+            waiting.push(file_in(alloc, folder, name)?)?;
         }
     }
     Ok(())
@@ -139,24 +59,22 @@ fn folder_at(alloc: Global, folder: &str) -> Result<String, AllocError>
     [folder, slash].concat(alloc)
 }
 
-/// Puts what is in a folder before everything that waits, ordered by the bytes of the names; says
-/// whether the folder could be read whole.
-fn open_folder<R: Files + AllocGlobal>(
-    rt: &R,
+/// Puts what is in a folder before everything that waits, in the order of its names, and returns
+/// whether these are all.
+fn open_folder<I: Inputs>(
+    alloc: Global,
+    inputs: &I,
     folder: &str,
     waiting: &mut Vec<CollectionFile>,
 ) -> Result<bool, AllocError>
-    ensures { OnOk result (Adds (folder_at folder.now) waiting.old.items waiting.new.items) }
+    ensures { IfOk result (λ is_whole. (names : List (List ℕ)) × (inside : List CollectionFile)
+        × I.opener.listed inputs.now (folder_at folder.now) names is_whole
+        × AreIn (folder_at folder.now) names inside
+        × (reverse waiting.new.items ≡ inside ++ reverse waiting.old.items)) }
 {
-    let path = folder_at(rt.alloc(), folder)?;
-    let mut names = Vec::new(rt.alloc());
-    let read = match rt.open_dir(path.as_str()) {
-        Ok(entries) => push_names(rt.alloc(), entries, LineEnd::Null, &mut names),
-        Err(error) => Err(error),
-    };
-    let is_whole = is_whole(read)?;
-    names.sort_unstable();
-    push_entries(rt.alloc(), path.as_str(), names.as_slice(), waiting)?;
+    let path = folder_at(alloc, folder)?;
+    let Listing { names, is_whole } = inputs.list(path.as_str())?;
+    push_entries(alloc, path.as_bytes(), names.as_slice(), waiting)?;
     Ok(is_whole)
 }
 
@@ -167,76 +85,96 @@ struct Search {
     waiting: Vec<CollectionFile>,
     /// The folders that were opened.
     folders: BTreeSet<Identity>,
-    /// Whether a game file was met, be it new or not.
-    has_games: bool,
 }
 
-/// Looks at what waited, opens it if it is a folder, and returns whether it is kept: it is a game file,
-/// was named itself, or has a name that is not UTF-8. A pipe, a socket or a device is kept only if it
-/// was named. No folder is opened again; one that cannot be read whole is kept as a file, which cannot
-/// be read either.
-fn visit<R: Files + AllocGlobal>(
-    rt: &R,
+/// Looks at what is at a path; `is_named` says whether it was named itself. No folder is opened again.
+/// A pipe, a socket or a device is kept only if it was named.
+fn look_at_path<I: Inputs>(
+    alloc: Global,
+    inputs: &I,
+    path: &str,
+    is_named: bool,
+    search: &mut Search,
+    kept: &mut KeptFiles,
+) -> Result<Fate, AllocError>
+    ensures looked { IfOk result (λ fate. (inside : List CollectionFile) × (found : Found)
+        × I.opener.found inputs.now path.now found
+        × LooksAtPath I.opener inputs.now kept.old.repeats is_named path.now found
+        (record { folders = search.old.folders; files = kept.old.seen })
+        (record { folders = search.new.folders; files = kept.new.seen }) inside fate
+        × (reverse search.new.waiting.items ≡ inside ++ reverse search.old.waiting.items)) }
+    ensures files { kept.new.files ≡ kept.old.files }
+    ensures repeats { kept.new.repeats ≡ kept.old.repeats }
+{
+    let may_be_game = is_named || is_game_file(path);
+    match inputs.look_at(path) {
+        Found::Folder(folder) => {
+            if !search.folders.insert(folder)? {
+                return Ok(Fate::NoGame);
+            }
+            let is_whole = open_folder(alloc, inputs, path, &mut search.waiting)?;
+            Ok(kept_if(!is_whole))
+        }
+        Found::File(file) if may_be_game => kept.note(file, is_named),
+        Found::File(_) => Ok(Fate::NoGame),
+        Found::Other => Ok(kept_if(is_named)),
+        Found::Nothing => Ok(kept_if(may_be_game)),
+    }
+}
+
+/// The same for a file of a collection. What has no text for a name cannot be looked at, and is kept.
+fn look_at<I: Inputs>(
+    alloc: Global,
+    inputs: &I,
     file: &CollectionFile,
     is_named: bool,
     search: &mut Search,
     kept: &mut KeptFiles,
-) -> Result<bool, AllocError>
-    ensures waiting { (name : List ℕ) → IsFrom name file.now
-        → OnOk result (Adds (folder_at name) search.old.waiting.items search.new.waiting.items) }
+) -> Result<Fate, AllocError>
+    ensures looked { IfOk result (λ fate. (inside : List CollectionFile)
+        × LooksAt I.opener inputs.now kept.old.repeats is_named file.now
+        (record { folders = search.old.folders; files = kept.old.seen })
+        (record { folders = search.new.folders; files = kept.new.seen }) inside fate
+        × (reverse search.new.waiting.items ≡ inside ++ reverse search.old.waiting.items)) }
     ensures files { kept.new.files ≡ kept.old.files }
     ensures repeats { kept.new.repeats ≡ kept.old.repeats }
-    ensures games { IfOk result (λ is_kept. is_kept ≡ false
-        → (search.new.has_games ≡ search.old.has_games) ⊎ ((search.new.has_games ≡ true)
-        × MayBePassedOver kept.old.repeats kept.old.files.items)) }
 {
     let CollectionFile::Input(Input::File(path)) = file else {
-        return Ok(true);
+        return Ok(Fate::Kept);
     };
-    let path = path.as_str();
-    let may_be_game = is_named || is_game_file(path);
-    let Ok(found) = fs::metadata(rt, path) else {
-        return Ok(may_be_game);
-    };
-    let identity = (found.dev(), found.ino());
-    if found.is_dir() {
-        return Ok(search.folders.insert(identity)? && !open_folder(rt, path, &mut search.waiting)?);
-    }
-    if found.is_file() && may_be_game {
-        search.has_games = true;
-        return Ok(kept.note(identity)? || is_named);
-    }
-    Ok(is_named)
+    let fate = look_at_path(alloc, inputs, path.as_str(), is_named, search, kept)?;
+    Ok(fate)
 }
 
 /// Adds the file at a path, or the game files below the folder there. Returns whether there was any.
-fn push_below<R: Files + AllocGlobal>(
-    rt: &R,
+fn push_below<I: Inputs>(
+    alloc: Global,
+    inputs: &I,
     path: &[u8],
     kept: &mut KeptFiles,
 ) -> Result<bool, AllocError>
+    requires { path.now ≢ codes "-" }
     ensures repeats { kept.new.repeats ≡ kept.old.repeats }
-    ensures files { IfOk result (λ some.
-        IsFollowed kept.old.repeats path.now kept.old.files.items some kept.new.files.items) }
+    ensures files { IfOk result (λ some. (own : List CollectionFile)
+        × (kept.new.files.items ≡ kept.old.files.items ++ own)
+        × LeadsTo I.opener inputs.now kept.old.repeats path.now kept.old.seen kept.new.seen own some) }
 {
-    let alloc = rt.alloc();
     let mut search = Search {
-        waiting: vec![in alloc; file_in(alloc, b"", path)?]?,
+        waiting: Vec::new(alloc),
         folders: BTreeSet::new(alloc),
-        has_games: false,
     };
-    // Never reached: the bound is there because each loop has to end. The first turn is the name
-    // itself.
-    for turn in 0..u64::MAX {
+    let named = file_in(alloc, b"", path)?;
+    let fate = look_at(alloc, inputs, &named, true, &mut search, kept)?;
+    let mut has_games = kept.push(named, fate)?;
+    for _turn in 0..u64::MAX {
         let Some(file) = search.waiting.pop() else {
-            break;
+            return Ok(has_games);
         };
-        if visit(rt, &file, turn == 0, &mut search, kept)? {
-            search.has_games = true;
-            kept.files.push(file)?;
-        }
+        let fate = look_at(alloc, inputs, &file, false, &mut search, kept)?;
+        has_games |= kept.push(file, fate)?;
     }
-    Ok(search.has_games)
+    // Never reached: the bound is there because each loop has to end.
+    Err(AllocError)
 }
 
 /// Adds the file at a path, or the game files below the folder there: those whose names end in
@@ -245,19 +183,20 @@ fn push_below<R: Files + AllocGlobal>(
 /// visited twice, so links may lead anywhere. A name that is not UTF-8 may be that of a game file or
 /// of a folder, so it is added too. `-` is standard input. Returns whether there was any, be it new
 /// or not.
-pub fn push_files<R: Files + AllocGlobal>(
-    rt: &R,
+pub fn push_files<I: Inputs>(
+    alloc: Global,
+    inputs: &I,
     path: &[u8],
     kept: &mut KeptFiles,
 ) -> Result<bool, AllocError>
     ensures repeats { kept.new.repeats ≡ kept.old.repeats }
     ensures files { IfOk result (λ some. (own : List CollectionFile)
         × (kept.new.files.items ≡ kept.old.files.items ++ own)
-        × LeadsTo kept.old.repeats kept.old.files.items path.now own some) }
+        × LeadsTo I.opener inputs.now kept.old.repeats path.now kept.old.seen kept.new.seen own some) }
 {
     if path == b"-".as_slice() {
         kept.files.push(CollectionFile::Input(Input::Standard))?;
         return Ok(true);
     }
-    push_below(rt, path, kept)
+    push_below(alloc, inputs, path, kept)
 }

@@ -6,7 +6,8 @@ ghost use Rattle.gf_jobs.specs.Duplicates.{HashedFile, IsKeptOf, KeptNames, are_
 ghost use Rattle.gf_jobs.specs.Duplicates.{groups_text, name_lines};
 ghost use Rattle.gf_jobs.specs.Lines.{end_text};
 
-use crate::collections::name::{end_text, push_name_line};
+use crate::collections::name::push_name_line;
+use crate::opening::list::end_byte;
 use gf_run::{Answer, RunFault, answer_with};
 use gf_words::LineEnd;
 use indexmap::IndexSet;
@@ -43,7 +44,7 @@ fn push_group(
         ++ name_lines end (map (λ name. name.now) names.now)) }
 {
     if !first {
-        text.extend_from_slice(end_text(end))?;
+        text.push(end_byte(end))?;
     }
     for name in names {
         push_name_line(text, b"", name, end)?;

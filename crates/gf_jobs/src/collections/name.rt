@@ -2,20 +2,11 @@
 
 ghost use Rattle.std.specs.Prelude.{◌≡◌, ◌++◌, OnOk};
 ghost use Rattle.std.specs.List.{flat_map, list_any};
-ghost use Rattle.gf_jobs.specs.Lines.{byte_text, end_text, is_escaped, mark, name_line, name_text};
+ghost use Rattle.gf_jobs.specs.Lines.{byte_text, is_escaped, mark, name_line, name_text};
 
+use crate::opening::list::end_byte;
 use gf_words::LineEnd;
 use std::alloc::AllocError;
-
-/// What ends a line.
-pub(crate) fn end_text(end: LineEnd) -> &'static [u8]
-    ensures { result.now ≡ end_text end }
-{
-    match end {
-        LineEnd::LineFeed => b"\n",
-        LineEnd::Null => b"\0",
-    }
-}
 
 /// Whether a byte of a name would break its line, or be taken for one that does.
 fn is_escaped(byte: u8) -> bool
@@ -84,5 +75,6 @@ pub(crate) fn push_name_line(
     text.extend_from_slice(mark(name, end))?;
     text.extend_from_slice(before)?;
     push_name(text, name, end)?;
-    text.extend_from_slice(end_text(end))
+    text.push(end_byte(end))?;
+    Ok(())
 }

@@ -1,22 +1,23 @@
 //! The files of a collection: those that words or a list of names lead to.
 
-ghost use Rattle.std.specs.Prelude.{◌≡◌, [], ◌∷◌, IfErr, IfOk, map};
+ghost use Rattle.std.specs.Prelude.{◌≡◌, IfErr, IfOk, List, map, ℕ};
 ghost use Rattle.std.specs.String.{string_bytes};
-ghost use Rattle.gf_jobs.specs.LedTo.{AreFilesOf, AreLedTo};
-ghost use Rattle.gf_jobs.specs.Performs.{ArePathsOpened, IsUnlisted};
+ghost use Rattle.gf_jobs.specs.LedTo.{AreFilesOf};
+ghost use Rattle.gf_jobs.specs.Performs.{AreNames, IsUnlisted};
 ghost use Rattle.gf_run.specs.declared.fault.RunFault.{RunFault};
 ghost use Rattle.gf_run.specs.declared.fault.Which.{Which};
 
 use crate::collections::file::CollectionFile;
-use crate::collections::folders::{KeptFiles, Repeats, push_files, push_names};
+use crate::collections::folders::push_files;
+use crate::collections::kept_files::{KeptFiles, Repeats};
 use crate::explain::{Cause, Failed};
 use crate::opening::inputs::{Inputs, open_input};
+use crate::opening::list::push_names;
 use gf_run::{RunFault, Which};
 use gf_words::{Input, LineEnd, Paths};
-use std::alloc::AllocError;
+use std::alloc::{AllocError, Global};
 use std::convert::AsSlice;
 use std::io::ErrorKind;
-use std::rt::Files;
 
 /// The files of a collection, and the folders that were named and have no game files.
 #[derive(Drop)]
@@ -33,22 +34,24 @@ fn unread(cause: Cause) -> Failed
     Failed { fault, cause }
 }
 
-/// The names in a list, each of which has this end; the last one may end with the list.
-fn names_in<R: AllocGlobal, I: Inputs>(
-    rt: &R,
+/// The names in a list, whose lines have this end.
+fn names_in<I: Inputs>(
+    alloc: Global,
     inputs: &mut I,
     list: &Input,
     end: LineEnd,
 ) -> Result<Vec<Vec<u8>>, Failed>
-    ensures opened { ArePathsOpened I.opener (Paths.List list.now end) inputs.old inputs.new }
-    ensures fault { IfErr result (λ failed. IsUnlisted (Paths.List list.now end) failed.fault) }
+    ensures names { IfOk result (λ names. AreNames I.opener I.Opened.reader
+        (Paths.List list.now end) (map (λ name. name.items) names.items) inputs.old inputs.new) }
+    ensures fault { IfErr result (λ failed.
+        IsUnlisted I.opener (Paths.List list.now end) failed.fault inputs.old inputs.new) }
 {
     let input = match open_input(inputs, list) {
         Ok(input) => input,
         Err(error) => return Err(unread(Cause::Opening(error))),
     };
-    let mut names = Vec::new(rt.alloc());
-    match push_names(rt.alloc(), input, end, &mut names) {
+    let mut names = Vec::new(alloc);
+    match push_names(alloc, input, end, &mut names) {
         Ok(()) => Ok(names),
         Err(error) if error.kind() == ErrorKind::OutOfMemory => Err(Failed::from(AllocError)),
         Err(error) => Err(unread(Cause::Transfer(Some(error)))),
@@ -56,39 +59,27 @@ fn names_in<R: AllocGlobal, I: Inputs>(
 }
 
 /// The files that these paths lead to, in their order.
-fn files_led_to<R: Files + AllocGlobal, P: AsSlice<u8>>(
-    rt: &R,
+fn files_led_to<I: Inputs, P: AsSlice<u8>>(
+    alloc: Global,
+    inputs: &I,
     paths: &[P],
     repeats: Repeats,
 ) -> Result<FoundFiles, AllocError>
-    ensures { IfOk result (λ found. AreLedTo repeats (map P.items paths.now) found.files.items
-        (map string_bytes found.without_games.items)) }
+    ensures { IfOk result (λ found. AreFilesOf I.opener inputs.now repeats (map P.items paths.now)
+        found.files.items (map string_bytes found.without_games.items)) }
 {
-    let mut kept = KeptFiles::new(rt.alloc(), repeats);
-    let mut without_games = Vec::new(rt.alloc());
+    let mut kept = KeptFiles::new(alloc, repeats);
+    let mut without_games = Vec::new(alloc);
     for path in paths {
         let path = path.as_slice();
-        if push_files(rt, path, &mut kept)? {
+        if push_files(alloc, inputs, path, &mut kept)? {
             continue;
         }
-        without_games.push(String::from_utf8_lossy(rt.alloc(), path)?)?;
+        without_games.push(String::from_utf8_lossy(alloc, path)?)?;
     }
     Ok(FoundFiles {
         files: kept.files,
         without_games,
-    })
-}
-
-/// Standard input alone.
-fn standard_input<R: AllocGlobal>(rt: &R) -> Result<FoundFiles, AllocError>
-    ensures files { IfOk result (λ found.
-        found.files.items ≡ CollectionFile.Input Input.Standard ∷ []) }
-    ensures folders { IfOk result (λ found. found.without_games.items ≡ []) }
-{
-    let input = CollectionFile::Input(Input::Standard);
-    Ok(FoundFiles {
-        files: vec![in rt.alloc(); input]?,
-        without_games: Vec::new(rt.alloc()),
     })
 }
 
@@ -100,23 +91,25 @@ fn standard_input<R: AllocGlobal>(rt: &R) -> Result<FoundFiles, AllocError>
 ///
 /// - `Read`: a list of names cannot be opened or read, for this cause.
 /// - `Memory`: memory ran out.
-pub fn files_at<R: Files + AllocGlobal, I: Inputs>(
-    rt: &R,
+pub fn files_at<I: Inputs>(
+    alloc: Global,
     inputs: &mut I,
     paths: &Paths,
     repeats: Repeats,
 ) -> Result<FoundFiles, Failed>
-    ensures opened { ArePathsOpened I.opener paths.now inputs.old inputs.new }
-    ensures files { IfOk result (λ found. AreFilesOf repeats paths.now found.files.items
+    ensures files { IfOk result (λ found. (names : List (List ℕ))
+        × AreNames I.opener I.Opened.reader paths.now names inputs.old inputs.new
+        × AreFilesOf I.opener inputs.new repeats names found.files.items
         (map string_bytes found.without_games.items)) }
-    ensures fault { IfErr result (λ failed. IsUnlisted paths.now failed.fault) }
+    ensures fault { IfErr result (λ failed.
+        IsUnlisted I.opener paths.now failed.fault inputs.old inputs.new) }
 {
     match paths {
-        Paths::Standard => Ok(standard_input(rt)?),
-        Paths::Named(names) => Ok(files_led_to(rt, names.as_slice(), repeats)?),
+        Paths::Standard => Ok(files_led_to(alloc, inputs, &["-"], repeats)?),
+        Paths::Named(names) => Ok(files_led_to(alloc, inputs, names.as_slice(), repeats)?),
         Paths::List { list, end } => {
-            let names = names_in(rt, inputs, list, *end)?;
-            Ok(files_led_to(rt, names.as_slice(), repeats)?)
+            let names = names_in(alloc, inputs, list, *end)?;
+            Ok(files_led_to(alloc, inputs, names.as_slice(), repeats)?)
         }
     }
 }

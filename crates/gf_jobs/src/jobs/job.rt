@@ -11,7 +11,7 @@ use crate::opening::inputs::Inputs;
 use gf_form::Strategies;
 use gf_run::{LastError, Sink};
 use gf_words::{Job, Request};
-use std::rt::Files;
+use std::alloc::Global;
 
 /// Does the job of a request, and returns the exit status.
 ///
@@ -37,8 +37,8 @@ use std::rt::Files;
 /// the file is refused; then comes the line that would be written otherwise, without `A: ` or `B: `;
 /// and then what is wrong, the line of the file with marks under the place, and a hint. Of several
 /// files, it begins with the name in any case. If memory for it runs out, only the line is written.
-pub fn perform<R: Files + AllocGlobal, I: Inputs, P: Progress, W: Sink + LastError, E: Sink>(
-    rt: &R,
+pub fn perform<I: Inputs, P: Progress, W: Sink + LastError, E: Sink>(
+    alloc: Global,
     inputs: &mut I,
     request: &Request,
     progress: &mut P,
@@ -51,19 +51,19 @@ pub fn perform<R: Files + AllocGlobal, I: Inputs, P: Progress, W: Sink + LastErr
         (record { inputs = inputs.new; output = output.new; errors = errors.new }) }
 {
     let mut session = Session {
-        alloc: rt.alloc(),
+        alloc,
         inputs,
         progress,
         output,
         errors,
         explain: request.explain,
     };
-    session.perform_job(rt, &request.job)
+    session.perform_job(&request.job)
 }
 
 impl<I: Inputs, P: Progress, W: Sink + LastError, E: Sink> Session<'_, '_, '_, '_, I, P, W, E> {
     /// Does a job, and returns the exit status.
-    fn perform_job<R: Files + AllocGlobal>(&mut self, rt: &R, job: &Job) -> u8
+    fn perform_job(&mut self, job: &Job) -> u8
         ensures same { IsSame self.old self.new }
         ensures performed { Performs I.opener I.Opened.reader W.writer E.writer self.old.explain
             job.now result (world_of self.old) (world_of self.new) }
@@ -79,15 +79,15 @@ impl<I: Inputs, P: Progress, W: Sink + LastError, E: Sink> Session<'_, '_, '_, '
                 self.perform_same(a.as_str(), b.as_str(), *map, *names)
             }
             Job::CheckCanon { files, names } => {
-                self.perform_all(rt, files, Task::Lines(FileLine::NotCanonical(*names)))
+                self.perform_all(files, Task::Lines(FileLine::NotCanonical(*names)))
             }
-            Job::WriteCanon { files, names } => self.perform_all(rt, files, Task::Rewrites(*names)),
-            Job::CheckAll(files) => self.perform_all(rt, files, Task::Lines(FileLine::Kind)),
+            Job::WriteCanon { files, names } => self.perform_all(files, Task::Rewrites(*names)),
+            Job::CheckAll(files) => self.perform_all(files, Task::Lines(FileLine::Kind)),
             Job::Hash { files, names, end } => {
-                self.perform_all(rt, files, Task::Lines(FileLine::Hash(*names, *end)))
+                self.perform_all(files, Task::Lines(FileLine::Hash(*names, *end)))
             }
             Job::Duplicates { files, names, end } => {
-                self.perform_all(rt, files, Task::Duplicates(*names, *end))
+                self.perform_all(files, Task::Duplicates(*names, *end))
             }
         }
     }

@@ -6,7 +6,7 @@ ghost use Rattle.gf_jobs.specs.Performs.{Does, IsSame, IsListReport, PerformsAll
 ghost use Rattle.gf_jobs.specs.Performs.{repeats_of, without_games, world_of};
 
 use crate::collections::file::{CollectionFile, called};
-use crate::collections::folders::Repeats;
+use crate::collections::kept_files::Repeats;
 use crate::collections::line::FileLine;
 use crate::collections::paths::files_at;
 use crate::collections::progress::Progress;
@@ -18,7 +18,6 @@ use gf_canon::Names;
 use gf_run::{LastError, RunFault, Sink, push_all};
 use gf_words::{LineEnd, Paths};
 use std::alloc::{AllocError, Global};
-use std::rt::Files;
 
 /// What is done with the files of a collection.
 #[derive(Clone, Copy)]
@@ -96,14 +95,12 @@ impl<I: Inputs, P: Progress, W: Sink + LastError, E: Sink> Session<'_, '_, '_, '
     /// All paths are followed, and folders that have no game files are reported, before a file is
     /// opened. If memory runs out then, E19 is reported; if a list of names cannot be opened or read,
     /// E20 is reported after its name, and explained if `explain` is true.
-    pub(crate) fn perform_all<R>(&mut self, rt: &R, paths: &Paths, task: Task) -> u8
-    where
-        R: Files + AllocGlobal,
+    pub(crate) fn perform_all(&mut self, paths: &Paths, task: Task) -> u8
         ensures same { IsSame self.old self.new }
         ensures performed { PerformsAll I.opener I.Opened.reader W.writer E.writer self.old.explain
             task paths.now result (world_of self.old) (world_of self.new) }
     {
-        match files_at(rt, self.inputs, paths, task.repeats()) {
+        match files_at(self.alloc, self.inputs, paths, task.repeats()) {
             Ok(found) => match without_games(self.alloc, found.without_games.as_slice()) {
                 Ok(text) => {
                     let _ = push_all(self.errors, text.as_slice());

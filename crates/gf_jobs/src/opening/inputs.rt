@@ -1,6 +1,6 @@
-//! How the inputs of a job are opened, and how a text takes the place of one.
+//! What shows which files there are, opens the inputs of a job, and puts a text in the place of one.
 
-ghost use Rattle.std.specs.Prelude.{◌≡◌, Err, MatchResult, Ok};
+ghost use Rattle.std.specs.Prelude.{◌≡◌, Err, IfOk, MatchResult, Ok, map};
 ghost use Rattle.gf_jobs.specs.Wrapped.{bytes_kept, kept_at_first, source_of};
 ghost use Rattle.gf_jobs.specs.Opening.{Opener, Opens, OpensNamed, file_of};
 
@@ -8,7 +8,7 @@ use crate::opening::kept::Kept;
 use gf_nfg::TextPieces;
 use gf_run::{LastError, Source};
 use gf_words::Input;
-use std::alloc::Global;
+use std::alloc::{AllocError, Global};
 use std::io;
 
 /// Why a text was not put in the place of a file.
@@ -20,13 +20,44 @@ pub enum Unreplaced {
     System(io::Error),
 }
 
-/// What opens inputs, and puts texts in the place of files.
+/// Which file or folder something is: its device, and its number there.
+pub type Identity = (u64, u64);
+
+/// What is at a path.
+#[derive(Clone, Copy)]
+pub enum Found {
+    Folder(Identity),
+    File(Identity),
+    /// A pipe, a socket or a device.
+    Other,
+    /// Nothing, or nothing that may be looked at.
+    Nothing,
+}
+
+/// The names in a folder, in the order of their bytes.
+#[derive(Drop)]
+pub struct Listing {
+    pub names: Vec<Vec<u8>>,
+    /// Whether these are all: the folder could be read to its end.
+    pub is_whole: bool,
+}
+
+/// What shows which files there are, opens inputs, and puts texts in the place of files.
 pub trait Inputs {
     /// An input that is open.
     type Opened: Source + LastError + Drop;
 
-    /// What opening and replacing give.
+    /// What is shown, and what opening and replacing give.
     ghost opener: { Opener Self Self.Opened };
+
+    /// What is at a path, through links.
+    fn look_at(&self, path: &str) -> Found
+        ensures { opener.found self.now path.now result };
+
+    /// The names in the folder at a path that ends with a slash.
+    fn list(&self, folder: &str) -> Result<Listing, AllocError>
+        ensures { IfOk result (λ listing. opener.listed self.now folder.now
+            (map (λ name. name.items) listing.names.items) listing.is_whole) };
 
     /// Standard input.
     fn standard(&mut self) -> Self::Opened

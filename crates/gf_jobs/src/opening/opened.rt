@@ -2,12 +2,17 @@
 
 ghost use Rattle.gf_jobs.specs.Wrapped.{host_opener, remaining_of};
 
-use crate::opening::inputs::{Inputs, Unreplaced};
+use crate::opening::inputs::{Found, Inputs, Listing, Unreplaced};
+use crate::opening::list::push_names;
 use crate::opening::replaced::replace;
 use gf_nfg::TextPieces;
 use gf_run::Counted;
-use std::fs::File;
-use std::io::{Read, Stdin};
+use gf_words::LineEnd;
+use std::alloc::AllocError;
+use std::fs::{File, Metadata};
+use std::io::{ErrorKind, Read, Stdin};
+use std::os::unix::fs::MetadataExt;
+use std::rt::Files;
 use std::{fs, io};
 
 /// An input that is open.
@@ -44,10 +49,49 @@ impl<'a> HostInputs<'a> {
     }
 }
 
+/// What something is.
+fn kind_of(found: &Metadata) -> Found {
+    let identity = (found.dev(), found.ino());
+    if found.is_dir() {
+        Found::Folder(identity)
+    } else if found.is_file() {
+        Found::File(identity)
+    } else {
+        Found::Other
+    }
+}
+
+/// Whether something was read whole, unless memory ran out.
+fn is_whole(read: io::Result<()>) -> Result<bool, AllocError> {
+    match read {
+        Ok(()) => Ok(true),
+        Err(error) if error.kind() == ErrorKind::OutOfMemory => Err(AllocError),
+        Err(_) => Ok(false),
+    }
+}
+
 impl Inputs for HostInputs<'_> {
     type Opened = Counted<Opened<Stdin, File>>;
 
     ghost opener = { host_opener };
+
+    fn look_at(&self, path: &str) -> Found {
+        match fs::metadata(self.rt, path) {
+            Ok(found) => kind_of(&found),
+            Err(_) => Found::Nothing,
+        }
+    }
+
+    fn list(&self, folder: &str) -> Result<Listing, AllocError> {
+        let mut names = Vec::new(self.rt.alloc());
+        let read = match self.rt.open_dir(folder) {
+            Ok(entries) => push_names(self.rt.alloc(), entries, LineEnd::Null, &mut names),
+            Err(error) => Err(error),
+        };
+        let is_whole = is_whole(read)?;
+        names.sort_unstable();
+        Ok(Listing { names, is_whole })
+    }
 
     fn standard(&mut self) -> Counted<Opened<Stdin, File>> {
         Counted::new(Opened::Standard(self.rt.stdin()))

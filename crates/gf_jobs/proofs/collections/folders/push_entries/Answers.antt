@@ -1,7 +1,15 @@
-use Rattle.gf_jobs.proofs.Found.{adds_one}
+use Rattle.std.proofs.Common.{arith, ◌∷◌}
+use Rattle.std.proofs.lemmas.List.{reverse-append}
+use Rattle.gf_jobs.proofs.Walked.{in_more}
 use Rattle.gf_jobs.proofs.collections.folders.push_entries.Goals as goal
 
-pub loop-name-preserved-in_ok-push : goal.loop-name-preserved-in_ok-push
-loop-name-preserved-in_ok-push c = rw c.in_ok-push.ensures.items
-    (adds_one c.args.folder.now _ _ _ c.loop-name.invariant
-    (_, rw c.as_bytes.ensures.value at c.in_ok-file_in.ensures))
+pub loop-place-preserved-in_ok-push : goal.loop-place-preserved-in_ok-push
+loop-place-preserved-in_ok-push c =
+    let (inside, are, is) = c.loop-place.invariant in (
+      c.in_ok-file_in.field-0 ∷ inside,
+      in_more (λ name. name.items) c.args.folder.now c.args.names.now c.loop-place.place
+          c.index-names-place.result c.in_ok-file_in.field-0 inside (omega arith) (omega arith) c.index-names-place.is
+          (grind (arith, c.if-not-starts_with.true, c.starts_with.ensures.value, c.as_slice-name.ensures.value))
+          (rw c.as_slice-name.ensures.value at c.in_ok-file_in.ensures) are,
+      grind (arith, reverse-append, c.in_ok-push.ensures.items, is),
+    )

@@ -1,0 +1,90 @@
+-- What is met while a name is followed.
+use Rattle.std.proofs.Common.{◌≡◌, ◌≢◌, ◌∷◌, ◌++◌, ◌+◌, ◌-◌, ◌<◌, ◌≤◌, ◌||◌, [], Bool, List, append-nil}
+use Rattle.std.proofs.Common.{append_assoc, arith, drop, false, get_or, if◌then◌else◌, length, map}
+use Rattle.std.proofs.Common.{refl, reverse, take, true, ℕ}
+use Rattle.std.proofs.Math.Bool.{or-false, or_assoc}
+use Rattle.std.proofs.lemmas.List.{drop_more, map_more, reverse-append}
+use Rattle.std.specs.Prelude.{codes, nat_eq}
+use Rattle.std.specs.List.{flat_map, list_any, starts_with}
+use Rattle.std.specs.Str.Lossy.{utf8_lossy}
+use Rattle.gf_jobs.specs.LedTo.{AreIn, AreLedTo, Before, HasPath, LeadsTo, LooksAt, Seen, Walks}
+use Rattle.gf_jobs.specs.LedTo.{is_game, kept_of}
+use Rattle.gf_jobs.specs.LedTo.AreLedTo.{one_more}
+use Rattle.gf_jobs.specs.LedTo.LeadsTo.{is_path}
+use Rattle.gf_jobs.specs.LedTo.Walks.{next, none}
+use Rattle.gf_jobs.specs.Opening.{Opener}
+use Rattle.gf_jobs.specs.declared.collections.file.CollectionFile.{CollectionFile}
+use Rattle.gf_jobs.specs.declared.collections.kept_files.Fate.{Fate}
+use Rattle.gf_jobs.specs.declared.collections.kept_files.Repeats.{Repeats}
+
+-- one more of the names in a folder, which is not hidden
+pub in_more : {V : Type 0} (bytes_of : V → List ℕ) (folder : List ℕ) (names : List V) (place : ℕ)
+    (name : V) (file : CollectionFile) (inside : List CollectionFile) → 0 < place
+    → place ≤ length names → name ≡ get_or names (place - 1) name
+    → starts_with nat_eq (bytes_of name) (codes ".") ≡ false
+    → HasPath (folder ++ bytes_of name) file
+    → AreIn folder (map bytes_of (drop place names)) inside
+    → AreIn folder (map bytes_of (drop (place - 1) names)) (file ∷ inside)
+in_more bytes_of folder names place name file inside some within this shown is are =
+    let rest : drop (place - 1) names ≡ name ∷ drop place names
+    = grind (arith, drop_more names (place - 1) name, this) in
+    rw (rest, shown) (is, are)
+
+module _ {I S : Type 0} (opener : Opener I S) (i : I) (repeats : Repeats) (name : List ℕ) (seen : Seen)
+    (old : List CollectionFile) where
+  -- after some was met: what waits leads on to what the name leads to
+  abbrev pub LeadsOn : (waiting : List CollectionFile) → Before → (kept : List CollectionFile) → Bool → Type 0
+  LeadsOn waiting before kept some = (last : Before) (met : List (CollectionFile × Fate))
+      → Walks opener i repeats (reverse waiting) before last met
+      → (own : List CollectionFile) × (kept ++ flat_map kept_of met ≡ old ++ own)
+      × LeadsTo opener i repeats name seen last.files own (some || list_any is_game met)
+
+  -- what is at the name was looked at
+  pub begun : (file : CollectionFile) (first mid : Before) (inside waiting kept : List CollectionFile)
+      (fate : Fate) (some : Bool) → name ≢ codes "-" → HasPath name file
+      → first.folders.keys ≡ [] → first.files ≡ seen
+      → LooksAt opener i repeats true file first mid inside fate → reverse waiting ≡ inside
+      → kept ≡ old ++ kept_of (file, fate) → some ≡ is_game (file, fate)
+      → LeadsOn waiting mid kept some
+  begun file first mid inside waiting kept fate some other has empty is meets stack kept_is some_is =
+      λ last met walks. (
+        flat_map kept_of ((file, fate) ∷ met),
+        grind (arith, append_assoc, kept_is),
+        rw some_is (is_path file first mid last inside fate met other has empty is meets
+            (rw stack at walks) refl),
+      )
+
+  -- the last one that waited was looked at
+  pub goes_on : (popped waiting after kept now inside : List CollectionFile) (file : CollectionFile)
+      (before mid : Before) (fate : Fate) (some more : Bool) → waiting ≡ popped ++ file ∷ []
+      → LooksAt opener i repeats false file before mid inside fate
+      → reverse after ≡ inside ++ reverse popped → now ≡ kept ++ kept_of (file, fate)
+      → more ≡ some || is_game (file, fate) → LeadsOn waiting before kept some
+      → LeadsOn after mid now more
+  goes_on popped waiting after kept now inside file before mid fate some more last_is meets stack
+      now_is more_is leads_on = λ last met walks.
+      let was : reverse waiting ≡ file ∷ reverse popped = grind (arith, reverse-append, last_is) in
+      let (own, is, leads) = leads_on last ((file, fate) ∷ met) (rw was
+      (next file (reverse popped) inside before mid last fate met meets (rw stack at walks))) in
+      (own, grind (arith, append_assoc, now_is, is), rw (more_is, or_assoc some (is_game (file, fate)) (list_any is_game met)) leads)
+
+  -- nothing waits
+  pub ended : (waiting kept : List CollectionFile) (before : Before) (some : Bool) → waiting ≡ []
+      → LeadsOn waiting before kept some → (own : List CollectionFile) × (kept ≡ old ++ own)
+      × LeadsTo opener i repeats name seen before.files own some
+  ended waiting kept before some nothing leads_on =
+      let (own, is, leads) = leads_on before [] (rw nothing (none before)) in
+      (own, grind (arith, append-nil, is), rw (or-false some) at leads)
+
+-- what names lead to, after one more of them
+pub led_on : {I S P : Type 0} (opener : Opener I S) (i : I) (repeats : Repeats) (name_of : P → List ℕ)
+    (paths : List P) (at : ℕ) (path : P) (seen now : Seen) (files own new : List CollectionFile)
+    (without : List (List ℕ)) (some : Bool) → at < length paths → path ≡ get_or paths at path
+    → new ≡ files ++ own
+    → AreLedTo opener i repeats (map name_of (take at paths)) seen files without
+    → LeadsTo opener i repeats (name_of path) seen now own some
+    → AreLedTo opener i repeats (map name_of (take (at + 1) paths)) now new
+    (without ++ (if some then [] else utf8_lossy (name_of path) ∷ []))
+led_on opener i repeats name_of paths at path seen now files own new without some within is new_is led
+    one = rw (map_more name_of paths at path within, ← is, new_is)
+    (one_more _ _ _ _ _ _ _ _ led one)

@@ -1,0 +1,31 @@
+-- The names in a list of files.
+use Rattle.std.specs.Prelude.{ℕ, List, [], ◌∷◌, if◌then◌else◌, nat_eq}
+use Rattle.std.specs.Io.BufRead.{strip_last}
+use Rattle.std.specs.List.{flat_map, onto_first}
+use Rattle.gf_words.specs.declared.job.LineEnd.{LineEnd}
+
+-- the byte that ends a line
+abbrev pub end_byte : LineEnd → ℕ
+end_byte LineEnd.LineFeed = 10
+end_byte LineEnd.Null = 0
+
+-- the lines of a text; this byte ends each, and may be missing after the last one
+abbrev pub lines_of : ℕ → List ℕ → List (List ℕ)
+lines_of byte [] = []
+lines_of byte (x ∷ xs) =
+    if nat_eq x byte then [] ∷ lines_of byte xs else onto_first x (lines_of byte xs)
+
+-- a name, unless it is empty
+abbrev pub unless_empty : List ℕ → List (List ℕ)
+unless_empty [] = []
+unless_empty name = name ∷ []
+
+-- the name in a line, if it has one: a line feed may come after a carriage return, and a blank line
+-- has no name
+abbrev pub name_in : LineEnd → List ℕ → List (List ℕ)
+name_in LineEnd.LineFeed line = unless_empty (strip_last 13 line)
+name_in LineEnd.Null line = line ∷ []
+
+-- the names in a list
+abbrev pub names_in : LineEnd → List ℕ → List (List ℕ)
+names_in end bytes = flat_map (name_in end) (lines_of (end_byte end) bytes)

@@ -1,2 +1,0 @@
--- Definitions that only proofs and private contracts use.
-pub mod Followed
