@@ -33,7 +33,8 @@ in_more bytes_of folder names place name file inside some within this shown is a
 module _ {I S : Type 0} (opener : Opener I S) (i : I) (repeats : Repeats) (name : List ℕ) (seen : Seen)
     (old : List CollectionFile) where
   -- after some was met: what waits leads on to what the name leads to
-  abbrev pub LeadsOn : (waiting : List CollectionFile) → Before → (kept : List CollectionFile) → Bool → Type 0
+  abbrev pub LeadsOn : (waiting : List CollectionFile) → Before → (kept : List CollectionFile) → Bool
+      → Type 0
   LeadsOn waiting before kept some = (last : Before) (met : List (CollectionFile × Fate))
       → Walks opener i repeats (reverse waiting) before last met
       → (own : List CollectionFile) × (kept ++ flat_map kept_of met ≡ old ++ own)
@@ -65,8 +66,11 @@ module _ {I S : Type 0} (opener : Opener I S) (i : I) (repeats : Repeats) (name 
       now_is more_is leads_on = λ last met walks.
       let was : reverse waiting ≡ file ∷ reverse popped = grind (arith, reverse-append, last_is) in
       let (own, is, leads) = leads_on last ((file, fate) ∷ met) (rw was
-      (next file (reverse popped) inside before mid last fate met meets (rw stack at walks))) in
-      (own, grind (arith, append_assoc, now_is, is), rw (more_is, or_assoc some (is_game (file, fate)) (list_any is_game met)) leads)
+      (next file (reverse popped) inside before mid last fate met meets (rw stack at walks))) in (
+        own,
+        grind (arith, append_assoc, now_is, is),
+        rw (more_is, or_assoc some (is_game (file, fate)) (list_any is_game met)) leads,
+      )
 
   -- nothing waits
   pub ended : (waiting kept : List CollectionFile) (before : Before) (some : Bool) → waiting ≡ []

@@ -1,10 +1,9 @@
 //! The files that a path names: a file itself, or, for a folder, the game files below it.
 
-ghost use Rattle.std.specs.Prelude.{◌≡◌, ◌≢◌, ◌++◌, IfOk, List, OnOk, codes, map, reverse, ℕ};
+ghost use Rattle.std.specs.Prelude.{◌≡◌, ◌++◌, IfOk, List, OnOk, map, reverse, ℕ};
 ghost use Rattle.std.specs.String.{string_bytes};
-ghost use Rattle.gf_jobs.specs.LedTo.{AreIn, HasPath, LeadsTo, LooksAt, LooksAtPath, folder_at};
+ghost use Rattle.gf_jobs.specs.LedTo.{AreIn, HasPath, LeadsTo, LooksAt, folder_at};
 ghost use Rattle.gf_jobs.specs.declared.collections.file.CollectionFile.{CollectionFile};
-ghost use Rattle.gf_jobs.specs.declared.opening.inputs.Found.{Found};
 
 use crate::collections::file::CollectionFile;
 use crate::collections::kept_files::{Fate, KeptFiles, kept_if};
@@ -87,42 +86,9 @@ struct Search {
     folders: BTreeSet<Identity>,
 }
 
-/// Looks at what is at a path; `is_named` says whether it was named itself. No folder is opened again.
-/// A pipe, a socket or a device is kept only if it was named.
-fn look_at_path<I: Inputs>(
-    alloc: Global,
-    inputs: &I,
-    path: &str,
-    is_named: bool,
-    search: &mut Search,
-    kept: &mut KeptFiles,
-) -> Result<Fate, AllocError>
-    ensures looked { IfOk result (λ fate. (inside : List CollectionFile) × (found : Found)
-        × I.opener.found inputs.now path.now found
-        × LooksAtPath I.opener inputs.now kept.old.repeats is_named path.now found
-        (record { folders = search.old.folders; files = kept.old.seen })
-        (record { folders = search.new.folders; files = kept.new.seen }) inside fate
-        × (reverse search.new.waiting.items ≡ inside ++ reverse search.old.waiting.items)) }
-    ensures files { kept.new.files ≡ kept.old.files }
-    ensures repeats { kept.new.repeats ≡ kept.old.repeats }
-{
-    let may_be_game = is_named || is_game_file(path);
-    match inputs.look_at(path) {
-        Found::Folder(folder) => {
-            if !search.folders.insert(folder)? {
-                return Ok(Fate::NoGame);
-            }
-            let is_whole = open_folder(alloc, inputs, path, &mut search.waiting)?;
-            Ok(kept_if(!is_whole))
-        }
-        Found::File(file) if may_be_game => kept.note(file, is_named),
-        Found::File(_) => Ok(Fate::NoGame),
-        Found::Other => Ok(kept_if(is_named)),
-        Found::Nothing => Ok(kept_if(may_be_game)),
-    }
-}
-
-/// The same for a file of a collection. What has no text for a name cannot be looked at, and is kept.
+/// Looks at what is at the path of a file; `is_named` says whether it was named itself. One whose name
+/// is no text cannot be looked at, and is kept. No folder is opened again. A pipe, a socket or a
+/// device is kept only if it was named.
 fn look_at<I: Inputs>(
     alloc: Global,
     inputs: &I,
@@ -142,39 +108,21 @@ fn look_at<I: Inputs>(
     let CollectionFile::Input(Input::File(path)) = file else {
         return Ok(Fate::Kept);
     };
-    let fate = look_at_path(alloc, inputs, path.as_str(), is_named, search, kept)?;
-    Ok(fate)
-}
-
-/// Adds the file at a path, or the game files below the folder there. Returns whether there was any.
-fn push_below<I: Inputs>(
-    alloc: Global,
-    inputs: &I,
-    path: &[u8],
-    kept: &mut KeptFiles,
-) -> Result<bool, AllocError>
-    requires { path.now ≢ codes "-" }
-    ensures repeats { kept.new.repeats ≡ kept.old.repeats }
-    ensures files { IfOk result (λ some. (own : List CollectionFile)
-        × (kept.new.files.items ≡ kept.old.files.items ++ own)
-        × LeadsTo I.opener inputs.now kept.old.repeats path.now kept.old.seen kept.new.seen own some) }
-{
-    let mut search = Search {
-        waiting: Vec::new(alloc),
-        folders: BTreeSet::new(alloc),
-    };
-    let named = file_in(alloc, b"", path)?;
-    let fate = look_at(alloc, inputs, &named, true, &mut search, kept)?;
-    let mut has_games = kept.push(named, fate)?;
-    for _turn in 0..u64::MAX {
-        let Some(file) = search.waiting.pop() else {
-            return Ok(has_games);
-        };
-        let fate = look_at(alloc, inputs, &file, false, &mut search, kept)?;
-        has_games |= kept.push(file, fate)?;
+    let path = path.as_str();
+    let may_be_game = is_named || is_game_file(path);
+    match inputs.look_at(path) {
+        Found::Folder(folder) => {
+            if !search.folders.insert(folder)? {
+                return Ok(Fate::NoGame);
+            }
+            let is_whole = open_folder(alloc, inputs, path, &mut search.waiting)?;
+            Ok(kept_if(!is_whole))
+        }
+        Found::File(identity) if may_be_game => kept.note(identity, is_named),
+        Found::File(_) => Ok(Fate::NoGame),
+        Found::Other => Ok(kept_if(is_named)),
+        Found::Nothing => Ok(kept_if(may_be_game)),
     }
-    // Never reached: the bound is there because each loop has to end.
-    Err(AllocError)
 }
 
 /// Adds the file at a path, or the game files below the folder there: those whose names end in
@@ -198,5 +146,20 @@ pub fn push_files<I: Inputs>(
         kept.files.push(CollectionFile::Input(Input::Standard))?;
         return Ok(true);
     }
-    push_below(alloc, inputs, path, kept)
+    let mut search = Search {
+        waiting: Vec::new(alloc),
+        folders: BTreeSet::new(alloc),
+    };
+    let named = file_in(alloc, b"", path)?;
+    let fate = look_at(alloc, inputs, &named, true, &mut search, kept)?;
+    let mut has_games = kept.push(named, fate)?;
+    for _turn in 0..u64::MAX {
+        let Some(file) = search.waiting.pop() else {
+            return Ok(has_games);
+        };
+        let fate = look_at(alloc, inputs, &file, false, &mut search, kept)?;
+        has_games |= kept.push(file, fate)?;
+    }
+    // Never reached: the bound is there because each loop has to end.
+    Err(AllocError)
 }

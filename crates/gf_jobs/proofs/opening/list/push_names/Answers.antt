@@ -3,9 +3,18 @@ use Rattle.gf_jobs.proofs.Listed.{none_yet, one_more}
 use Rattle.gf_jobs.proofs.opening.list.push_names.Goals as goal
 
 pub loop-line-init : goal.loop-line-init
-loop-line-init g c = none_yet _ _ _ _ _
-    (grind (arith, c.end_byte.ensures, c.split-line-items.ensures.byte, c.into_iter-line-iterator.ensures))
-    (grind (arith, c.in_ok-new.ensures.inner, c.in_ok-new.ensures.empty, c.in_ok-new.ensures.capacity, c.split-line-items.ensures.bytes, c.into_iter-line-iterator.ensures))
+loop-line-init g c =
+    let split = c.split-line-items.ensures in
+    let iterator = c.into_iter-line-iterator.ensures in
+    none_yet _ _ _ _ _ (grind (arith, c.end_byte.ensures, split.byte, iterator))
+    (grind (
+      arith,
+      c.in_ok-new.ensures.inner,
+      c.in_ok-new.ensures.empty,
+      c.in_ok-new.ensures.capacity,
+      split.bytes,
+      iterator,
+    ))
 
 pub loop-line-preserved : goal.loop-line-preserved
 loop-line-preserved g c =

@@ -23,7 +23,8 @@ returns-in-Ok-without_games-clause-performed g c =
 pub returns-in-Ok-clause-performed : goal.returns-in-Ok-clause-performed
 returns-in-Ok-clause-performed g c =
     let (names, are_names, are_files) = c.in-Ok.ensures.files in
-    unlisted RunFault.Memory (still_unlisted g.I.Inputs.opener g.I.Opened.Source.reader _ names _ _ are_names) refl
+    unlisted RunFault.Memory
+    (still_unlisted g.I.Inputs.opener g.I.Opened.Source.reader _ names _ _ are_names) refl
     (c.report.ensures.status, (_, refl, c.report.ensures.sent))
 
 pub returns-clause-performed : goal.returns-clause-performed
