@@ -3,7 +3,8 @@ use Rattle.std.proofs.Common.{◌≡◌, ◌∙◌, ℕ, List, refl}
 use Rattle.gf_nfg.specs.Table.{Table}
 use Rattle.gf_canon.specs.GameFile.{GameFile}
 use Rattle.gf_canon.specs.CanonicalText.{SpellsWithin}
-use Rattle.gf_calls.specs.Tabled.{IsMadeText, made, not_made, IsTableOfFile, IsTabled, written}
+use Rattle.gf_calls.specs.Tabled.{IsTableOfFile, IsTabled, written}
+use Rattle.gf_calls.specs.inner.MadeText.{IsMadeText, made, not_made}
 use Rattle.gf_calls.specs.Tabled.{out_of_memory, TableOutput}
 use Rattle.gf_form.specs.declared.forms.Strategies.{Strategies}
 use Rattle.gf_calls.specs.declared.status.Status.{Status}

@@ -8,3 +8,4 @@ pub mod Pairs
 pub mod Refused
 pub mod Tabled
 pub mod Written
+pub mod inner

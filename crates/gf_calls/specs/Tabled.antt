@@ -47,14 +47,6 @@ pub record TableOutput : Type 0 where
   pub numbers : FaultNumbers
   pub profile : ℕ
 
--- the text of a table is handed out, or memory ran out
-pub data IsMadeText (t : Table) (old new : List ℕ) (before needed : ℕ) (status : Status)
-    : Type 0 where
-  made : IsHandedOut (table_text t) old new needed status
-      → IsMadeText t old new before needed status
-  not_made : status ≡ Status.OutOfMemory → new ≡ old → needed ≡ before
-      → IsMadeText t old new before needed status
-
 -- The text of the table is handed out; or the bytes are refused; or they mean a game that has no
 -- table, or more players than a table can have; or memory ran out although they are valid. Nothing
 -- else is written.

@@ -6,7 +6,8 @@ ghost use Rattle.gf_canon.specs.GameFile.GameFile.{extensive};
 ghost use Rattle.gf_canon.specs.CanonicalText.{SpellsWithin};
 ghost use Rattle.gf_canon.specs.MeaningOf.{file_of};
 ghost use Rattle.gf_calls.specs.Numbers.{strategies_by};
-ghost use Rattle.gf_calls.specs.Tabled.{IsMadeText, IsTabled, IsTabledBy, form_status, profile_of};
+ghost use Rattle.gf_calls.specs.Tabled.{IsTabled, IsTabledBy, form_status, profile_of};
+ghost use Rattle.gf_calls.specs.inner.MadeText.{IsMadeText};
 
 use crate::fault::{FaultNumbers, report};
 use crate::flags::strategies_by;

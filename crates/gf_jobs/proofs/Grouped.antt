@@ -14,7 +14,8 @@ use Rattle.gf_tree.proofs.Offered.{AreDistinct, Has, IsEquality, first_uses_dist
 use Rattle.gf_tree.proofs.Offered.{known_more, map_twice, used_before}
 use Rattle.gf_tree.proofs.Offered.{was_used}
 use Rattle.indexmap.specs.IndexSet.{insert_key}
-use Rattle.gf_jobs.specs.Duplicates.{HashedFile, IsKeptOf, KeptNames, hashes_of, having, names_of}
+use Rattle.gf_jobs.specs.Duplicates.{HashedFile, hashes_of, having, names_of}
+use Rattle.gf_jobs.specs.inner.KeptNames.{IsKeptOf, KeptNames}
 use Rattle.gf_jobs.specs.Duplicates.{same_hash}
 
 pub same_hash_equality : IsEquality same_hash

@@ -4,7 +4,7 @@ use Rattle.std.specs.Prelude.{⊤}
 use Rattle.gf_run.specs.Streams.{Stream}
 use Rattle.gf_run.specs.Transfers.{IsWriteFault, IsWritten}
 use Rattle.gf_run.specs.declared.fault.RunFault.{RunFault}
-use Rattle.gf_jobs.specs.Performs.{without_cause}
+use Rattle.gf_jobs.specs.inner.Causes.{without_cause}
 use Rattle.gf_jobs.specs.Reports.{IsSent}
 use Rattle.gf_jobs.specs.declared.explain.Failed.{Failed}
 

@@ -7,8 +7,8 @@ use Rattle.std.proofs.lemmas.List.{drop_more, map_more, reverse-append}
 use Rattle.std.specs.Prelude.{codes, nat_eq}
 use Rattle.std.specs.List.{flat_map, list_any, starts_with}
 use Rattle.std.specs.Str.Lossy.{utf8_lossy}
-use Rattle.gf_jobs.specs.LedTo.{AreIn, AreLedTo, Before, HasPath, LeadsTo, LooksAt, Seen, Walks}
-use Rattle.gf_jobs.specs.LedTo.{is_game, kept_of}
+use Rattle.gf_jobs.specs.LedTo.{AreIn, AreLedTo, SoFar, HasPath, LeadsTo, LooksAt, Seen, Walks}
+use Rattle.gf_jobs.specs.LedTo.{counts_as_game, kept_of}
 use Rattle.gf_jobs.specs.LedTo.AreLedTo.{one_more}
 use Rattle.gf_jobs.specs.LedTo.LeadsTo.{is_path}
 use Rattle.gf_jobs.specs.LedTo.Walks.{next, none}
@@ -33,19 +33,19 @@ in_more bytes_of folder names place name file inside some within this shown is a
 module _ {I S : Type 0} (opener : Opener I S) (i : I) (repeats : Repeats) (name : List ℕ) (seen : Seen)
     (old : List CollectionFile) where
   -- after some was met: what waits leads on to what the name leads to
-  abbrev pub LeadsOn : (waiting : List CollectionFile) → Before → (kept : List CollectionFile) → Bool
+  abbrev pub LeadsOn : (waiting : List CollectionFile) → SoFar → (kept : List CollectionFile) → Bool
       → Type 0
-  LeadsOn waiting before kept some = (last : Before) (met : List (CollectionFile × Fate))
+  LeadsOn waiting before kept some = (last : SoFar) (met : List (CollectionFile × Fate))
       → Walks opener i repeats (reverse waiting) before last met
       → (own : List CollectionFile) × (kept ++ flat_map kept_of met ≡ old ++ own)
-      × LeadsTo opener i repeats name seen last.files own (some || list_any is_game met)
+      × LeadsTo opener i repeats name seen last.files own (some || list_any counts_as_game met)
 
   -- what is at the name was looked at
-  pub begun : (file : CollectionFile) (first mid : Before) (inside waiting kept : List CollectionFile)
+  pub begun : (file : CollectionFile) (first mid : SoFar) (inside waiting kept : List CollectionFile)
       (fate : Fate) (some : Bool) → name ≢ codes "-" → HasPath name file
       → first.folders.keys ≡ [] → first.files ≡ seen
       → LooksAt opener i repeats true file first mid inside fate → reverse waiting ≡ inside
-      → kept ≡ old ++ kept_of (file, fate) → some ≡ is_game (file, fate)
+      → kept ≡ old ++ kept_of (file, fate) → some ≡ counts_as_game (file, fate)
       → LeadsOn waiting mid kept some
   begun file first mid inside waiting kept fate some other has empty is meets stack kept_is some_is =
       λ last met walks. (
@@ -57,10 +57,10 @@ module _ {I S : Type 0} (opener : Opener I S) (i : I) (repeats : Repeats) (name 
 
   -- the last one that waited was looked at
   pub goes_on : (popped waiting after kept now inside : List CollectionFile) (file : CollectionFile)
-      (before mid : Before) (fate : Fate) (some more : Bool) → waiting ≡ popped ++ file ∷ []
+      (before mid : SoFar) (fate : Fate) (some more : Bool) → waiting ≡ popped ++ file ∷ []
       → LooksAt opener i repeats false file before mid inside fate
       → reverse after ≡ inside ++ reverse popped → now ≡ kept ++ kept_of (file, fate)
-      → more ≡ some || is_game (file, fate) → LeadsOn waiting before kept some
+      → more ≡ some || counts_as_game (file, fate) → LeadsOn waiting before kept some
       → LeadsOn after mid now more
   goes_on popped waiting after kept now inside file before mid fate some more last_is meets stack
       now_is more_is leads_on = λ last met walks.
@@ -69,11 +69,11 @@ module _ {I S : Type 0} (opener : Opener I S) (i : I) (repeats : Repeats) (name 
       (next file (reverse popped) inside before mid last fate met meets (rw stack at walks))) in (
         own,
         grind (arith, append_assoc, now_is, is),
-        rw (more_is, or_assoc some (is_game (file, fate)) (list_any is_game met)) leads,
+        rw (more_is, or_assoc some (counts_as_game (file, fate)) (list_any counts_as_game met)) leads,
       )
 
   -- nothing waits
-  pub ended : (waiting kept : List CollectionFile) (before : Before) (some : Bool) → waiting ≡ []
+  pub ended : (waiting kept : List CollectionFile) (before : SoFar) (some : Bool) → waiting ≡ []
       → LeadsOn waiting before kept some → (own : List CollectionFile) × (kept ≡ old ++ own)
       × LeadsTo opener i repeats name seen before.files own some
   ended waiting kept before some nothing leads_on =

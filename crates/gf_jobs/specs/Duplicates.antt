@@ -1,5 +1,5 @@
 -- Which of the files that were read are the same game, and the text that names them.
-use Rattle.std.specs.Prelude.{◌≡◌, ℕ, Bool, nat_eq, nat_lt, not, List, [], length, map}
+use Rattle.std.specs.Prelude.{ℕ, Bool, nat_eq, nat_lt, not, List, [], length, map}
 use Rattle.std.specs.Cmp.Lexicographic.{pointwise}
 use Rattle.std.specs.List.{Contains, filter, flat_map, join_by, list_any}
 use Rattle.gf_tree.specs.FiniteMap.{first_uses}
@@ -57,13 +57,3 @@ name_lines end names = flat_map (name_line end []) names
 -- the names of groups, with an empty line between two groups
 abbrev pub groups_text : LineEnd → List (List (List ℕ)) → List ℕ
 groups_text end groups = join_by (name_lines end) (end_text end) groups
-
--- what is kept of files: their hashes, and for each hash the names of its files
-pub record KeptNames : Type 0 where
-  pub hashes : List (List ℕ)
-  pub names : List (List (List ℕ))
-
--- this is kept of the files
-pub record IsKeptOf (files : List HashedFile) (kept : KeptNames) : Type 0 where
-  pub hashes : kept.hashes ≡ hashes_of files
-  pub names : kept.names ≡ map names_of (groups_of files)

@@ -29,118 +29,116 @@ HasPath path (CollectionFile.NotText shown) =
 abbrev pub folder_at : List ℕ → List ℕ
 folder_at name = if ends_with nat_eq name (codes "/") then name else name ++ codes "/"
 
--- what is in a folder with these names; what is hidden is left out
+-- the files of these names in a folder, without the hidden ones
 abbrev pub AreIn : (folder : List ℕ) → (names : List (List ℕ)) → List CollectionFile → Type 0
 AreIn folder names files = AllZip (λ name. HasPath (folder ++ name))
     (filter (λ name. not (starts_with nat_eq name (codes "."))) names) files
 
--- ---- what came before
+-- ---- what has come so far
 
--- files and folders are told apart by device and number
-abbrev pub by_identity : ℕ × ℕ → ℕ × ℕ → Ordering
-by_identity a b = ordering_then (nat_cmp a.0 b.0) (nat_cmp a.1 b.1)
-
--- those that came so far
+-- files and folders, which are told apart by device and number
 abbrev pub Seen : Type 0
 Seen = BTreeSet (ℕ × ℕ)
 
-abbrev pub came : Seen → ℕ × ℕ → Bool
-came = contains by_identity
+abbrev pub by_identity : ℕ × ℕ → ℕ × ℕ → Ordering
+by_identity a b = ordering_then (nat_cmp a.0 b.0) (nat_cmp a.1 b.1)
 
--- one more came
-abbrev pub IsWith : ℕ × ℕ → Seen → Seen → Type 0
-IsWith identity old new = new.keys ≡ insert_key by_identity old.keys identity
+abbrev pub has_come : Seen → ℕ × ℕ → Bool
+has_come = contains by_identity
 
--- which folders were opened below a name, and which files came, where that matters
-pub record Before : Type 0 where
+-- one more has
+abbrev pub IsOneMore : ℕ × ℕ → Seen → Seen → Type 0
+IsOneMore identity old new = new.keys ≡ insert_key by_identity old.keys identity
+
+-- the folders that were opened below a name, and the files that were found, where it matters which
+pub record SoFar : Type 0 where
   pub folders : Seen
   pub files : Seen
 
--- ---- what is looked at
+-- ---- what becomes of what is looked at
 
--- kept, or no game file
+-- it is kept, or no game file
 abbrev pub kept_if : Bool → Fate
 kept_if is_kept = if is_kept then Fate.Kept else Fate.NoGame
 
--- A file was found. If it was named, it may be a game and is kept in any case; `repeats` says whether
--- another is kept that came before.
-abbrev pub IsNoted : Repeats → (named may_be_game : Bool) → (file : ℕ × ℕ) → (old new : Seen) → Fate
-    → Type 0
-IsNoted repeats named false file old new fate = (new ≡ old) × (fate ≡ Fate.NoGame)
-IsNoted Repeats.Kept named true file old new fate = (new ≡ old) × (fate ≡ Fate.Kept)
-IsNoted Repeats.PassedOver named true file old new fate = IsWith file old new
-    × (fate ≡ if named || not (came old file) then Fate.Kept else Fate.PassedOver)
-
--- what is kept of what was met, and whether a game file was
+-- what is kept of it
 abbrev pub kept_of : CollectionFile × Fate → List CollectionFile
 kept_of (file, Fate.Kept) = file ∷ []
 kept_of (file, Fate.PassedOver) = []
 kept_of (file, Fate.NoGame) = []
 
-abbrev pub is_game : CollectionFile × Fate → Bool
-is_game (file, Fate.Kept) = true
-is_game (file, Fate.PassedOver) = true
-is_game (file, Fate.NoGame) = false
+-- whether it counts as a game file, be it new or not
+abbrev pub counts_as_game : CollectionFile × Fate → Bool
+counts_as_game (file, Fate.Kept) = true
+counts_as_game (file, Fate.PassedOver) = true
+counts_as_game (file, Fate.NoGame) = false
 
--- for what shows which files there are, as it is
-module _ {I S : Type 0} (opener : Opener I S) (i : I) where
+-- A file was found. It is kept if it was named. Below a folder it is kept if it may be a game and, where
+-- repeats are passed over, has not come before.
+abbrev pub IsNoted : Repeats → (named may_be_game : Bool) → (file : ℕ × ℕ) → (old new : Seen) → Fate
+    → Type 0
+IsNoted repeats named false file old new fate = (new ≡ old) × (fate ≡ Fate.NoGame)
+IsNoted Repeats.Kept named true file old new fate = (new ≡ old) × (fate ≡ Fate.Kept)
+IsNoted Repeats.PassedOver named true file old new fate = IsOneMore file old new
+    × (fate ≡ if named || not (has_come old file) then Fate.Kept else Fate.PassedOver)
+
+-- for what shows which files there are, as it is; `repeats` says whether a file is kept again
+module _ {I S : Type 0} (opener : Opener I S) (i : I) (repeats : Repeats) where
   -- a folder was found, which may have been opened before
   pub data Enters (path : List ℕ) (folder : ℕ × ℕ) (old new : Seen)
       : (inside : List CollectionFile) → Fate → Type 0 where
     -- it is not opened again
-    again : came old folder ≡ true → new.keys ≡ old.keys → Enters path folder old new [] Fate.NoGame
+    again : has_come old folder ≡ true → new.keys ≡ old.keys
+        → Enters path folder old new [] Fate.NoGame
     -- what is in it is looked at next; it is kept if its names are not all known, and then cannot be
     -- read either
     first : (names : List (List ℕ)) (is_whole : Bool) (inside : List CollectionFile)
-        → came old folder ≡ false → IsWith folder old new
+        → has_come old folder ≡ false → IsOneMore folder old new
         → opener.listed i (folder_at path) names is_whole → AreIn (folder_at path) names inside
         → Enters path folder old new inside (kept_if (not is_whole))
 
   -- what is at a path is looked at; `named` says whether it was named itself
-  abbrev pub LooksAtPath : Repeats → (named : Bool) → (path : List ℕ) → Found → (old new : Before)
+  abbrev pub LooksAtPath : (named : Bool) → (path : List ℕ) → Found → (old new : SoFar)
       → (inside : List CollectionFile) → Fate → Type 0
-  LooksAtPath repeats named path (Found.Folder folder) old new inside fate =
+  LooksAtPath named path (Found.Folder folder) old new inside fate =
       (new.files ≡ old.files) × Enters path folder old.folders new.folders inside fate
-  LooksAtPath repeats named path (Found.File file) old new inside fate = (new.folders ≡ old.folders)
+  LooksAtPath named path (Found.File file) old new inside fate = (new.folders ≡ old.folders)
       × (inside ≡ [])
       × IsNoted repeats named (named || is_game_name path) file old.files new.files fate
-  LooksAtPath repeats named path Found.Other old new inside fate = (new.folders ≡ old.folders)
-      × (new.files ≡ old.files) × (inside ≡ []) × (fate ≡ kept_if named)
-  LooksAtPath repeats named path Found.Nothing old new inside fate = (new.folders ≡ old.folders)
-      × (new.files ≡ old.files) × (inside ≡ []) × (fate ≡ kept_if (named || is_game_name path))
+  LooksAtPath named path Found.Other old new inside fate =
+      (new ≡ old) × (inside ≡ []) × (fate ≡ kept_if named)
+  LooksAtPath named path Found.Nothing old new inside fate =
+      (new ≡ old) × (inside ≡ []) × (fate ≡ kept_if (named || is_game_name path))
 
--- `repeats` says whether a file is kept that came before
-module _ {I S : Type 0} (opener : Opener I S) (i : I) (repeats : Repeats) where
   -- the same for a file of a collection; one whose name is no text cannot be looked at, and is kept
-  abbrev pub LooksAt : (named : Bool) → CollectionFile → (old new : Before)
+  abbrev pub LooksAt : (named : Bool) → CollectionFile → (old new : SoFar)
       → (inside : List CollectionFile) → Fate → Type 0
   LooksAt named (CollectionFile.Input (Input.File path)) old new inside fate = (found : Found)
-      × opener.found i (string_bytes path) found
-      × LooksAtPath opener i repeats named (string_bytes path) found old new inside fate
-  LooksAt named file old new inside fate = (new.folders ≡ old.folders) × (new.files ≡ old.files)
-      × (inside ≡ []) × (fate ≡ Fate.Kept)
+      × opener.is_at i (string_bytes path) found
+      × LooksAtPath named (string_bytes path) found old new inside fate
+  LooksAt named file old new inside fate = (new ≡ old) × (inside ≡ []) × (fate ≡ Fate.Kept)
 
   -- one after another is looked at, and what is in a folder right after it
-  pub data Walks : (waiting : List CollectionFile) → (old new : Before)
+  pub data Walks : (waiting : List CollectionFile) → (old new : SoFar)
       → List (CollectionFile × Fate) → Type 0 where
-    none : (before : Before) → Walks [] before before []
-    next : (file : CollectionFile) (waiting inside : List CollectionFile) (old mid new : Before)
+    none : (before : SoFar) → Walks [] before before []
+    next : (file : CollectionFile) (waiting inside : List CollectionFile) (old mid new : SoFar)
         (fate : Fate) (met : List (CollectionFile × Fate))
         → LooksAt false file old mid inside fate → Walks (inside ++ waiting) mid new met
         → Walks (file ∷ waiting) old new ((file, fate) ∷ met)
 
-  -- what a name leads to: files, and whether there was a game file
+  -- what a name leads to: files, and whether any counts as a game file
   pub data LeadsTo (name : List ℕ) (old new : Seen) : List CollectionFile → Bool → Type 0 where
     -- `-` is standard input
     is_standard : name ≡ codes "-" → new ≡ old
         → LeadsTo name old new (CollectionFile.Input Input.Standard ∷ []) true
     -- what is at its path is looked at, and what is below that
-    is_path : (file : CollectionFile) (first mid last : Before) (inside : List CollectionFile)
+    is_path : (file : CollectionFile) (first mid last : SoFar) (inside : List CollectionFile)
         (fate : Fate) (met : List (CollectionFile × Fate)) → name ≢ codes "-"
         → HasPath name file → first.folders.keys ≡ [] → first.files ≡ old
         → LooksAt true file first mid inside fate → Walks inside mid last met → new ≡ last.files
         → LeadsTo name old new (flat_map kept_of ((file, fate) ∷ met))
-        (list_any is_game ((file, fate) ∷ met))
+        (list_any counts_as_game ((file, fate) ∷ met))
 
   -- what names lead to: the files of each after those of the names before it, and the names that
   -- have none, which are reported

@@ -6,3 +6,4 @@ pub mod Opening
 pub mod Performs
 pub mod Reports
 pub mod Wrapped
+pub mod inner

@@ -20,8 +20,8 @@ abbrev pub unless_empty : List ℕ → List (List ℕ)
 unless_empty [] = []
 unless_empty name = name ∷ []
 
--- the name in a line, if it has one: a line feed may come after a carriage return, and a blank line
--- has no name
+-- the name in a line, if it has one: where line feeds end lines, a carriage return at the end is left
+-- out, and an empty line has no name
 abbrev pub name_in : LineEnd → List ℕ → List (List ℕ)
 name_in LineEnd.LineFeed line = unless_empty (strip_last 13 line)
 name_in LineEnd.Null line = line ∷ []

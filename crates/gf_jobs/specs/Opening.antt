@@ -9,13 +9,13 @@ use Rattle.gf_jobs.specs.declared.collections.file.CollectionFile.{CollectionFil
 use Rattle.gf_jobs.specs.declared.opening.inputs.Found.{Found}
 use Rattle.gf_jobs.specs.declared.opening.inputs.Unreplaced.{Unreplaced}
 
--- What shows which files there are, opens inputs, and puts texts in the place of files. `found` is
+-- What shows which files there are, opens inputs, and puts texts in the place of files. `is_at` is
 -- between the state, a path and what is there; `listed` between the state, the path of a folder, the
 -- names in it and whether these are all. Each of the others is between the state before, what is
 -- returned, and the state after; before what is returned come a file's name and, to replace it, the
 -- text.
 pub record Opener (I S : Type 0) : Type 1 where
-  pub found : I → List ℕ → Found → Type 0
+  pub is_at : I → List ℕ → Found → Type 0
   pub listed : I → List ℕ → List (List ℕ) → Bool → Type 0
   pub standard : I → S → I → Type 0
   pub file : I → List ℕ → Result S Error → I → Type 0

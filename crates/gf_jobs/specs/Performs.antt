@@ -30,7 +30,6 @@ use Rattle.gf_jobs.specs.Wrapped.{bytes_kept, kept_at_first, kept_reader, source
 use Rattle.gf_jobs.specs.declared.collections.file.CollectionFile.{CollectionFile}
 use Rattle.gf_jobs.specs.declared.collections.kept_files.Repeats.{Repeats}
 use Rattle.gf_jobs.specs.declared.collections.line.FileLine.{FileLine}
-use Rattle.gf_jobs.specs.declared.explain.Failed.{Failed}
 use Rattle.gf_run.specs.declared.fault.RunFault.{RunFault}
 use Rattle.gf_run.specs.declared.fault.Which.{Which}
 use Rattle.gf_jobs.specs.declared.jobs.many_files.Task.{Task}
@@ -98,11 +97,6 @@ Stays status a b = (status ≡ 0) × (b ≡ a)
 abbrev pub unreplaced_fault : Unreplaced → RunFault
 unreplaced_fault Unreplaced.Memory = RunFault.Memory
 unreplaced_fault (Unreplaced.System error) = RunFault.Write
-
--- the result of a run, without what the system says about a fault
-abbrev pub without_cause : Result ⊤ Failed → Result ⊤ RunFault
-without_cause (Ok done) = Ok done
-without_cause (Err failed) = Err failed.fault
 
 -- for what opens inputs and replaces files
 module _ {I S : Type 0} (opener : Opener I S) where
@@ -203,19 +197,19 @@ abbrev pub repeats_of : Task → Repeats
 repeats_of (Task.Duplicates names end) = Repeats.PassedOver
 repeats_of task = Repeats.Kept
 
--- for what opens inputs, and what an input shows: which names lead to the files, and what is opened to
--- know them
+-- for what opens inputs, and what an input reports: which names a collection has, and what is opened to
+-- learn them
 module _ {I S : Type 0} (opener : Opener I S) (reader : Stream S) where
-  -- they are the words that were given, or `-` if there are none; or those in a list, which is opened
-  -- once, and whose bytes are known if it reports them
+  -- the words that were given, or `-` if there are none; or those in a list, which is opened once, if
+  -- it reports its bytes
   abbrev pub AreNames : Paths → List (List ℕ) → I → I → Type 0
   AreNames Paths.Standard names i i' = (names ≡ codes "-" ∷ []) × (i' ≡ i)
   AreNames (Paths.Named words) names i i' = (names ≡ map string_bytes words.items) × (i' ≡ i)
   AreNames (Paths.List list end) names i i' = (s : S) × Opens opener (file_of list) i (Ok s) i'
       × IfSome (reader.known s) (λ bytes. names ≡ names_in end bytes)
 
--- for what opens inputs: why the files may not be known. Memory ran out; or a list, which was to be
--- opened once, could not be opened, or was and could not be read.
+-- for what opens inputs: why the files may not be known. Memory ran out; or a list, which is opened
+-- once, could not be opened, or was opened and is said not to be read.
 abbrev pub IsUnlisted : {I S : Type 0} → Opener I S → Paths → RunFault → I → I → Type 0
 IsUnlisted {S = S} opener (Paths.List list end) fault i i' = (answer : Result S Error)
     × Opens opener (file_of list) i answer i' × MatchResult answer

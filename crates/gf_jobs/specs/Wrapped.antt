@@ -50,7 +50,7 @@ remaining_of standard file (Opened.File input) = file input
 -- standard input is opened as such, and a file as a file; of what becomes of files, nothing is said
 abbrev pub host_opener : {I S F : Type 0} → Opener I (Counted (Opened S F))
 host_opener {S = S} {F = F} = record {
-  found = λ _ _ _. Unit {0};
+  is_at = λ _ _ _. Unit {0};
   listed = λ _ _ _ _. Unit {0};
   standard = λ _ opened _. (input : S) × (inner_of opened ≡ Opened.Standard input);
   file = λ _ _ answer _. IfOk answer (λ opened. (file : F) × (inner_of opened ≡ Opened.File file));

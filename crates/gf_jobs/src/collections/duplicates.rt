@@ -3,7 +3,8 @@
 ghost use Rattle.std.specs.Prelude.{◌≡◌, List, MatchResult};
 ghost use Rattle.gf_jobs.specs.Performs.{FindsAll, HashesNext, IsOutOfMemory, IsSame, WritesGroups};
 ghost use Rattle.gf_jobs.specs.Performs.{with_output, world_of};
-ghost use Rattle.gf_jobs.specs.Duplicates.{HashedFile, IsKeptOf};
+ghost use Rattle.gf_jobs.specs.Duplicates.{HashedFile};
+ghost use Rattle.gf_jobs.specs.inner.KeptNames.{IsKeptOf};
 ghost use Rattle.gf_jobs.specs.Lines.{ReadsHash};
 
 use crate::collections::file::{CollectionFile, name_of, open_file};

@@ -86,9 +86,10 @@ struct Search {
     folders: BTreeSet<Identity>,
 }
 
-/// Looks at what is at the path of a file; `is_named` says whether it was named itself. One whose name
-/// is no text cannot be looked at, and is kept. No folder is opened again. A pipe, a socket or a
-/// device is kept only if it was named.
+/// Looks at what is at the path of a file, and returns what becomes of it; `is_named` says whether it
+/// was named itself. What is in a folder is put before everything that waits, but once only; a folder
+/// that cannot be read whole is kept as a file. A pipe, a socket or a device is kept only if it was
+/// named. What has no text for a name cannot be looked at, and is kept.
 fn look_at<I: Inputs>(
     alloc: Global,
     inputs: &I,
@@ -126,9 +127,9 @@ fn look_at<I: Inputs>(
 }
 
 /// Adds the file at a path, or the game files below the folder there: those whose names end in
-/// `.efg` or `.nfg`, in upper or lower case, each folder ordered by the bytes of its names. What is
-/// hidden, by a name that begins with a full stop, is passed over, unless it is named. No folder is
-/// visited twice, so links may lead anywhere. A name that is not UTF-8 may be that of a game file or
+/// `.efg` or `.nfg`, in upper or lower case, those of each folder in the order in which it is listed.
+/// What is hidden, by a name that begins with a full stop, is passed over, unless it is named. No folder
+/// below the path is opened twice, so links may lead anywhere. A name that is not UTF-8 may be that of a game file or
 /// of a folder, so it is added too. `-` is standard input. Returns whether there was any, be it new
 /// or not.
 pub fn push_files<I: Inputs>(

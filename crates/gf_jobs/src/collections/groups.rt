@@ -2,9 +2,10 @@
 
 ghost use Rattle.std.specs.Prelude.{◌≡◌, List, [], ◌∷◌, ◌++◌, map, MatchResult, OnOk};
 ghost use Rattle.std.specs.Prelude.{if◌then◌else◌};
-ghost use Rattle.gf_jobs.specs.Duplicates.{HashedFile, IsKeptOf, KeptNames, are_apart, duplicates};
+ghost use Rattle.gf_jobs.specs.Duplicates.{HashedFile, are_apart, duplicates};
 ghost use Rattle.gf_jobs.specs.Duplicates.{groups_text, name_lines};
 ghost use Rattle.gf_jobs.specs.Lines.{end_text};
+ghost use Rattle.gf_jobs.specs.inner.KeptNames.{IsKeptOf, KeptNames};
 
 use crate::collections::name::push_name_line;
 use crate::opening::list::end_byte;

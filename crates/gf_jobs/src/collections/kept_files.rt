@@ -1,19 +1,19 @@
 //! The files of a collection that are kept, while its names are followed.
 
 ghost use Rattle.std.specs.Prelude.{◌≡◌, ◌++◌, [], IfOk, OnOk, true};
-ghost use Rattle.gf_jobs.specs.LedTo.{IsNoted, is_game, kept_if, kept_of};
+ghost use Rattle.gf_jobs.specs.LedTo.{IsNoted, counts_as_game, kept_if, kept_of};
 
 use crate::collections::file::CollectionFile;
 use crate::opening::inputs::Identity;
 use std::alloc::{AllocError, Global};
 use std::collections::BTreeSet;
 
-/// Whether a file of a folder that came before, by another name, is kept.
+/// Whether a file that is found in a folder is kept if it has come before.
 #[derive(Clone, Copy)]
 pub enum Repeats {
-    /// It is kept under each name.
+    /// It is.
     Kept,
-    /// It is kept only under the first.
+    /// It is not, unless it is named itself.
     PassedOver,
 }
 
@@ -22,9 +22,9 @@ pub enum Repeats {
 pub enum Fate {
     /// It is kept.
     Kept,
-    /// It is a game file that came before.
+    /// It is a game file that has come before, and is not kept.
     PassedOver,
-    /// It is no game file.
+    /// It is no game file, and is not kept.
     NoGame,
 }
 
@@ -39,7 +39,7 @@ pub(crate) fn kept_if(is_kept: bool) -> Fate
 #[derive(Drop)]
 pub struct KeptFiles {
     pub files: Vec<CollectionFile>,
-    /// Whether a folder's files are kept that come again, as by a link.
+    /// Whether files of folders are kept that come again, as by a link.
     pub repeats: Repeats,
     /// Which files came so far, if those that come again are passed over.
     pub seen: BTreeSet<Identity>,
@@ -80,12 +80,11 @@ impl KeptFiles {
         }
     }
 
-    /// Keeps a file, if that is its fate. Returns whether it is a game file, be it new or not, or is
-    /// kept.
+    /// Keeps a file, if that is its fate. Returns whether it counts as a game file, be it new or not.
     pub(crate) fn push(&mut self, file: CollectionFile, fate: Fate) -> Result<bool, AllocError>
         ensures files { OnOk result
             (self.new.files.items ≡ self.old.files.items ++ kept_of (file, fate)) }
-        ensures game { IfOk result (λ some. some ≡ is_game (file, fate)) }
+        ensures game { IfOk result (λ some. some ≡ counts_as_game (file, fate)) }
         ensures seen { self.new.seen ≡ self.old.seen }
         ensures repeats { self.new.repeats ≡ self.old.repeats }
     {

@@ -84,8 +84,8 @@ fn files_led_to<I: Inputs, P: AsSlice<u8>>(
 }
 
 /// The files of a collection, in the order of their paths. For a folder these are the game files
-/// below it, each folder ordered by the bytes of its names; a folder that cannot be read whole is
-/// kept as a file. `repeats` says whether a file is kept that a folder has by two names.
+/// below it, those of each folder in the order in which it is listed; a folder that cannot be read
+/// whole is kept as a file. `repeats` says whether a file of a folder is kept if it has come before.
 ///
 /// # Errors
 ///

@@ -2,7 +2,8 @@
 
 ghost use Rattle.std.specs.Prelude.{◌≡◌};
 ghost use Rattle.gf_jobs.specs.Performs.{IsReplacedBy, IsRewritten, IsSame, Rewrites, RewritesAll};
-ghost use Rattle.gf_jobs.specs.Performs.{RewritesNext, unreplaced_fault, without_cause, world_of};
+ghost use Rattle.gf_jobs.specs.Performs.{RewritesNext, unreplaced_fault, world_of};
+ghost use Rattle.gf_jobs.specs.inner.Causes.{without_cause};
 
 use crate::collections::file::{CollectionFile, name_of, open_file};
 use crate::collections::progress::Progress;

@@ -30,7 +30,7 @@ pub enum Found {
     File(Identity),
     /// A pipe, a socket or a device.
     Other,
-    /// Nothing, or nothing that may be looked at.
+    /// Nothing, or something that cannot be looked at.
     Nothing,
 }
 
@@ -50,11 +50,11 @@ pub trait Inputs {
     /// What is shown, and what opening and replacing give.
     ghost opener: { Opener Self Self.Opened };
 
-    /// What is at a path, through links.
+    /// What is at a path. Links are followed.
     fn look_at(&self, path: &str) -> Found
-        ensures { opener.found self.now path.now result };
+        ensures { opener.is_at self.now path.now result };
 
-    /// The names in the folder at a path that ends with a slash.
+    /// The names in the folder at this path, which ends with a slash.
     fn list(&self, folder: &str) -> Result<Listing, AllocError>
         ensures { IfOk result (λ listing. opener.listed self.now folder.now
             (map (λ name. name.items) listing.names.items) listing.is_whole) };

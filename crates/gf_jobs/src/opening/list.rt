@@ -19,7 +19,7 @@ pub(crate) fn end_byte(end: LineEnd) -> u8
 }
 
 /// Adds the name in a line that had this end, if there is one: before a line feed a carriage return may
-/// stand, and a blank line has no name.
+/// stand, and an empty line has no name.
 fn push_name(names: &mut Vec<Vec<u8>>, mut line: Vec<u8>, end: LineEnd) -> Result<(), AllocError>
     ensures { OnOk result (map (λ name. name.items) names.new.items
         ≡ map (λ name. name.items) names.old.items ++ name_in end line.items) }

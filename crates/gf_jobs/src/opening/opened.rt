@@ -35,7 +35,7 @@ impl<S: Read, F: Read> Read for Opened<S, F> {
     }
 }
 
-/// What opens the inputs of the program.
+/// What shows, opens and replaces the files of the program.
 #[derive(Drop)]
 pub struct HostInputs<'a> {
     rt: &'a HostRuntime,

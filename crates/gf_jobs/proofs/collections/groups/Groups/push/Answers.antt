@@ -1,6 +1,6 @@
 use Rattle.std.proofs.Common.{subst, arith, ◌∷◌, map, sym, ◌∙◌, [], ap}
 use Rattle.std.proofs.lemmas.List.{map-append, length-map}
-use Rattle.gf_jobs.specs.Duplicates.{IsKeptOf, KeptNames}
+use Rattle.gf_jobs.specs.inner.KeptNames.{IsKeptOf, KeptNames}
 use Rattle.gf_jobs.proofs.Grouped.{more_new, more_there, put_last, put_there}
 use Rattle.gf_jobs.proofs.collections.groups.Groups.push.Goals as goal
 

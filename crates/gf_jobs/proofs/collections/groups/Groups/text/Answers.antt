@@ -1,7 +1,8 @@
 use Rattle.std.proofs.Common.{◌∙◌, List, ap, arith, filter, length, map, not, sym, ℕ}
 use Rattle.std.proofs.lemmas.List.{length-map}
 use Rattle.std.specs.List.{list_any}
-use Rattle.gf_jobs.specs.Duplicates.{KeptNames, groups_text, has_two}
+use Rattle.gf_jobs.specs.Duplicates.{groups_text, has_two}
+use Rattle.gf_jobs.specs.inner.KeptNames.{KeptNames}
 use Rattle.gf_jobs.proofs.GroupsText.{added, at_end, passed}
 use Rattle.gf_jobs.proofs.collections.groups.Groups.text.Goals as goal
 

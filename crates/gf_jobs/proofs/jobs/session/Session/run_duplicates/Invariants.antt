@@ -2,7 +2,8 @@ use Rattle.std.proofs.Common.{[], List}
 use Rattle.std.specs.Prelude.{◌≡◌}
 use Rattle.gf_jobs.specs.Performs.{HashesNext, IsOutOfMemory, IsSame, WritesGroups}
 use Rattle.gf_jobs.specs.Performs.{with_output, world_of}
-use Rattle.gf_jobs.specs.Duplicates.{HashedFile, IsKeptOf}
+use Rattle.gf_jobs.specs.Duplicates.{HashedFile}
+use Rattle.gf_jobs.specs.inner.KeptNames.{IsKeptOf}
 use Rattle.gf_jobs.proofs.Going.{IsOn}
 use Rattle.gf_jobs.proofs.jobs.session.Session.run_duplicates.Given as goal
 

@@ -1,0 +1,2 @@
+-- Definitions that only proofs and private contracts use.
+pub mod MadeText

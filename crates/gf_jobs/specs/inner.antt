@@ -1,0 +1,3 @@
+-- Definitions that only proofs and private contracts use.
+pub mod Causes
+pub mod KeptNames
