@@ -1,8 +1,12 @@
 //! Laws of the definitions, each as the contract of a function that does nothing.
 
-ghost use Rattle.std.specs.Prelude.{◌≡◌, ◌↔◌, ◌⊎◌, ℕ, List, [], None, Some};
+ghost use Rattle.std.specs.Prelude.{◌≡◌, ◌↔◌, ◌⊎◌, ◌∷◌, ℕ, List, [], None, Some, codes, false, true};
 ghost use Rattle.std.specs.List.{Contains};
+ghost use Rattle.gf_words.specs.GameNames.{is_game_name};
+ghost use Rattle.gf_words.specs.declared.job.LineEnd.{LineEnd};
 ghost use Rattle.gf_jobs.specs.Duplicates.{AreInOneGroup, HashedFile};
+ghost use Rattle.gf_jobs.specs.LedTo.{folder_at};
+ghost use Rattle.gf_jobs.specs.Listed.{names_in};
 ghost use Rattle.gf_run.specs.Transfers.{IsReadWhole};
 ghost use Rattle.gf_jobs.specs.Wrapped.{bytes_kept, kept_reader};
 ghost use Rattle.gf_jobs.specs.declared.opening.kept.Kept.{Kept};
@@ -21,4 +25,16 @@ pub fn kept_is_read<S: Source>()
     ensures { (old new : Kept S) (bytes : List ℕ) → bytes_kept old ≡ Some []
         → IsReadWhole (kept_reader S.reader) old new bytes
         → (bytes_kept new ≡ Some bytes) ⊎ (bytes_kept new ≡ None) }
+{}
+
+/// The names in three lists, the paths of two folders, and names of games and of another file.
+pub fn worked_lists()
+    ensures lines { names_in LineEnd.LineFeed (codes "a.efg\r\n\nb c.nfg\n")
+        ≡ codes "a.efg" ∷ codes "b c.nfg" ∷ [] }
+    ensures unended { names_in LineEnd.LineFeed (codes "\na") ≡ codes "a" ∷ [] }
+    ensures null { names_in LineEnd.Null (97 ∷ 13 ∷ 0 ∷ 0 ∷ 98 ∷ [])
+        ≡ (97 ∷ 13 ∷ []) ∷ [] ∷ (98 ∷ []) ∷ [] }
+    ensures folders { (folder_at (codes "a") ≡ codes "a/") × (folder_at (codes "/") ≡ codes "/") }
+    ensures games { (is_game_name (codes "a/b.NFG") ≡ true) × (is_game_name (codes ".efg") ≡ true)
+        × (is_game_name (codes "b.nfgs") ≡ false) }
 {}
