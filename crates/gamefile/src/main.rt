@@ -3,11 +3,10 @@
 #![tactic(auto)]
 
 use arguments::request_given;
-use gf_jobs::{Erasing, HostInputs, Shown, answer, perform};
+use gf_jobs::{Erasing, Found, HostInputs, Inputs, Shown, answer, perform};
 use gf_run::Counted;
 use gf_words::{Input, Job, Paths, Request, WordsFault};
 use std::alloc::{AllocError, Global};
-use std::fs;
 use std::io::IsTerminal;
 use std::process::ExitCode;
 
@@ -21,13 +20,6 @@ fn shows_progress(rt: &HostRuntime, request: &Request) -> bool {
     }
 }
 
-fn is_folder(rt: &HostRuntime, path: &str) -> bool {
-    match fs::metadata(rt, path) {
-        Ok(found) => found.is_dir(),
-        Err(_) => false,
-    }
-}
-
 fn alone(alloc: Global, path: &str) -> Result<Paths, AllocError> {
     let mut paths = Vec::new(alloc);
     paths.push(String::from_str(alloc, path)?)?;
@@ -38,7 +30,7 @@ fn alone(alloc: Global, path: &str) -> Result<Paths, AllocError> {
 fn request(rt: &HostRuntime) -> Result<Request, WordsFault> {
     let mut request = request_given(rt)?;
     if let Job::Check(Input::File(path)) = &request.job {
-        if is_folder(rt, path.as_str()) {
+        if let Found::Folder(_) = HostInputs::new(rt).look_at(path.as_str()) {
             request.job = Job::CheckAll(alone(rt.alloc(), path.as_str())?);
         }
     }

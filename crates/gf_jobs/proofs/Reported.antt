@@ -1,9 +1,12 @@
 -- What was reported, and what failed.
-use Rattle.std.proofs.Common.{◌≡◌, List, ℕ, Result, Ok, Err, IsErrAnd, OnErr, OnOk, arith, inl, inr}
+use Rattle.std.proofs.Common.{◌≡◌, ◌≢◌, Bool, List, ℕ, Result, Ok, Err, IsErrAnd, OnErr, OnOk, arith}
+use Rattle.std.proofs.Common.{inl, inr, refl}
 use Rattle.std.specs.Prelude.{⊤}
 use Rattle.gf_run.specs.Streams.{Stream}
 use Rattle.gf_run.specs.Transfers.{IsWriteFault, IsWritten}
 use Rattle.gf_run.specs.declared.fault.RunFault.{RunFault}
+use Rattle.gf_run.specs.declared.fault.Which.{Which}
+use Rattle.gf_jobs.specs.Performs.{of_fault}
 use Rattle.gf_jobs.specs.inner.Causes.{without_cause}
 use Rattle.gf_jobs.specs.Reports.{IsSent}
 use Rattle.gf_jobs.specs.declared.explain.Failed.{Failed}
@@ -14,6 +17,14 @@ pub told : {W E S : Type 0} (writer : Stream S) (text : List ℕ) (old new : S) 
     → IsSent writer text old new
 told writer text old new (Ok done) all part = inl all
 told writer text old new (Err fault) all part = inr part
+
+-- of two, the one whose opening failed
+pub unopened_one : {T : Type 0} (which : Which) (first second one : T)
+    → (which ≡ Which.Second → one ≡ second) → (which ≢ Which.Second → one ≡ first)
+    → one ≡ of_fault {A = Bool} (Err (RunFault.Read which)) first second
+unopened_one Which.Only first second one is other = other (λ same. absurd cc)
+unopened_one Which.First first second one is other = other (λ same. absurd cc)
+unopened_one Which.Second first second one is other = is refl
 
 -- a failure has this fault
 pub is_failed : (r : Result ⊤ Failed) (fault : RunFault)

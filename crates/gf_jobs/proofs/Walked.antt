@@ -7,11 +7,12 @@ use Rattle.std.proofs.lemmas.List.{drop_more, map_more, reverse-append}
 use Rattle.std.specs.Prelude.{codes, nat_eq}
 use Rattle.std.specs.List.{flat_map, list_any, starts_with}
 use Rattle.std.specs.Str.Lossy.{utf8_lossy}
-use Rattle.gf_jobs.specs.LedTo.{AreIn, AreLedTo, SoFar, HasPath, LeadsTo, LooksAt, Seen, Walks}
+use Rattle.gf_jobs.specs.LedTo.{AreIn, AreLedTo, SoFar, HasPath, LeadsTo, LooksAt, Seen, AreMet}
 use Rattle.gf_jobs.specs.LedTo.{counts_as_game, kept_of}
 use Rattle.gf_jobs.specs.LedTo.AreLedTo.{one_more}
 use Rattle.gf_jobs.specs.LedTo.LeadsTo.{is_path}
-use Rattle.gf_jobs.specs.LedTo.Walks.{next, none}
+use Rattle.gf_jobs.specs.LedTo.AreMet.{next, none}
+use Rattle.gf_jobs.specs.LedTo.IsMet.{first_of}
 use Rattle.gf_jobs.specs.Opening.{Opener}
 use Rattle.gf_jobs.specs.declared.collections.file.CollectionFile.{CollectionFile}
 use Rattle.gf_jobs.specs.declared.collections.kept_files.Fate.{Fate}
@@ -30,13 +31,26 @@ in_more bytes_of folder names place name file inside some within this shown is a
     = grind (arith, drop_more names (place - 1) name, this) in
     rw (rest, shown) (is, are)
 
+-- what is met at all of these files is what is met at the first ones, and then at the others
+met_in_turn : {I S : Type 0} (opener : Opener I S) (i : I) (repeats : Repeats)
+    (files others : List CollectionFile) (old new : SoFar) (met : List (CollectionFile × Fate))
+    → AreMet opener i repeats (files ++ others) old new met → (mid : SoFar)
+    × (first second : List (CollectionFile × Fate)) × AreMet opener i repeats files old mid first
+    × AreMet opener i repeats others mid new second × (met ≡ first ++ second)
+met_in_turn opener i repeats [] others old new met are = (old, [], met, none old, are, refl)
+met_in_turn opener i repeats (file ∷ files) others old new met
+    (next _ _ _ mid _ own rest is are) =
+    let (left, first, second, one, other, all) =
+    met_in_turn opener i repeats files others mid new rest are in
+    (left, own ++ first, second, next _ _ _ _ _ _ _ is one, other, grind (arith, append_assoc, all))
+
 module _ {I S : Type 0} (opener : Opener I S) (i : I) (repeats : Repeats) (name : List ℕ) (seen : Seen)
     (old : List CollectionFile) where
   -- after some was met: what waits leads on to what the name leads to
   abbrev pub LeadsOn : (waiting : List CollectionFile) → SoFar → (kept : List CollectionFile) → Bool
       → Type 0
   LeadsOn waiting before kept some = (last : SoFar) (met : List (CollectionFile × Fate))
-      → Walks opener i repeats (reverse waiting) before last met
+      → AreMet opener i repeats (reverse waiting) before last met
       → (own : List CollectionFile) × (kept ++ flat_map kept_of met ≡ old ++ own)
       × LeadsTo opener i repeats name seen last.files own (some || list_any counts_as_game met)
 
@@ -47,12 +61,12 @@ module _ {I S : Type 0} (opener : Opener I S) (i : I) (repeats : Repeats) (name 
       → LooksAt opener i repeats true file first mid inside fate → reverse waiting ≡ inside
       → kept ≡ old ++ kept_of (file, fate) → some ≡ counts_as_game (file, fate)
       → LeadsOn waiting mid kept some
-  begun file first mid inside waiting kept fate some other has empty is meets stack kept_is some_is =
-      λ last met walks. (
-        flat_map kept_of ((file, fate) ∷ met),
+  begun file first mid inside waiting kept fate some other has empty is looks stack kept_is some_is =
+      λ last below are. (
+        flat_map kept_of ((file, fate) ∷ below),
         grind (arith, append_assoc, kept_is),
-        rw some_is (is_path file first mid last inside fate met other has empty is meets
-            (rw stack at walks) refl),
+        rw some_is (is_path file first last ((file, fate) ∷ below) other has empty is
+            (first_of true file inside first mid last fate below looks (rw stack at are)) refl),
       )
 
   -- the last one that waited was looked at
@@ -62,15 +76,32 @@ module _ {I S : Type 0} (opener : Opener I S) (i : I) (repeats : Repeats) (name 
       → reverse after ≡ inside ++ reverse popped → now ≡ kept ++ kept_of (file, fate)
       → more ≡ some || counts_as_game (file, fate) → LeadsOn waiting before kept some
       → LeadsOn after mid now more
-  goes_on popped waiting after kept now inside file before mid fate some more last_is meets stack
-      now_is more_is leads_on = λ last met walks.
-      let was : reverse waiting ≡ file ∷ reverse popped = grind (arith, reverse-append, last_is) in
-      let (own, is, leads) = leads_on last ((file, fate) ∷ met) (rw was
-      (next file (reverse popped) inside before mid last fate met meets (rw stack at walks))) in (
-        own,
-        grind (arith, append_assoc, now_is, is),
-        rw (more_is, or_assoc some (counts_as_game (file, fate)) (list_any counts_as_game met)) leads,
-      )
+  goes_on popped waiting after kept now inside file before mid fate some more last_is looks stack now_is
+      more_is leads_on = λ last met are.
+      let (left, below, others, inner, outer, all) =
+      met_in_turn opener i repeats inside (reverse popped) mid last met (rw stack at are) in
+      by last left met below others inner outer all
+    where
+      by : (last left : SoFar) (met below others : List (CollectionFile × Fate))
+          → AreMet opener i repeats inside mid left below
+          → AreMet opener i repeats (reverse popped) left last others → met ≡ below ++ others
+          → (own : List CollectionFile) × (now ++ flat_map kept_of met ≡ old ++ own)
+          × LeadsTo opener i repeats name seen last.files own (more || list_any counts_as_game met)
+      by last left met below others inner outer all =
+          let was : reverse waiting ≡ file ∷ reverse popped
+          = grind (arith, reverse-append, last_is) in
+          let is_met = first_of false file inside before mid left fate below looks inner in
+          let (own, is, leads) = leads_on last (((file, fate) ∷ below) ++ others)
+          (rw was (next _ _ _ _ _ _ _ is_met outer)) in (
+            own,
+            rw all (grind (arith, append_assoc, now_is, is)),
+            rw (
+              all,
+              more_is,
+              or_assoc some (counts_as_game (file, fate))
+                  (list_any counts_as_game (below ++ others)),
+            ) leads,
+          )
 
   -- nothing waits
   pub ended : (waiting kept : List CollectionFile) (before : SoFar) (some : Bool) → waiting ≡ []

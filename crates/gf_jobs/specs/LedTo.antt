@@ -118,27 +118,33 @@ module _ {I S : Type 0} (opener : Opener I S) (i : I) (repeats : Repeats) where
       × LooksAtPath named (string_bytes path) found old new inside fate
   LooksAt named file old new inside fate = (new ≡ old) × (inside ≡ []) × (fate ≡ Fate.Kept)
 
-  -- one after another is looked at, and what is in a folder right after it
-  pub data Walks : (waiting : List CollectionFile) → (old new : SoFar)
-      → List (CollectionFile × Fate) → Type 0 where
-    none : (before : SoFar) → Walks [] before before []
-    next : (file : CollectionFile) (waiting inside : List CollectionFile) (old mid new : SoFar)
-        (fate : Fate) (met : List (CollectionFile × Fate))
-        → LooksAt false file old mid inside fate → Walks (inside ++ waiting) mid new met
-        → Walks (file ∷ waiting) old new ((file, fate) ∷ met)
+  mutual
+    -- what is met at a file: the file, and then what is below it
+    pub data IsMet : (named : Bool) → CollectionFile → (old new : SoFar)
+        → List (CollectionFile × Fate) → Type 0 where
+      first_of : (named : Bool) (file : CollectionFile) (inside : List CollectionFile)
+          (old opened new : SoFar) (fate : Fate) (below : List (CollectionFile × Fate))
+          → LooksAt named file old opened inside fate → AreMet inside opened new below
+          → IsMet named file old new ((file, fate) ∷ below)
+
+    -- what is met at files, at one after another
+    pub data AreMet : List CollectionFile → (old new : SoFar) → List (CollectionFile × Fate)
+        → Type 0 where
+      none : (before : SoFar) → AreMet [] before before []
+      next : (file : CollectionFile) (files : List CollectionFile) (old mid new : SoFar)
+          (own others : List (CollectionFile × Fate)) → IsMet false file old mid own
+          → AreMet files mid new others → AreMet (file ∷ files) old new (own ++ others)
 
   -- what a name leads to: files, and whether any counts as a game file
   pub data LeadsTo (name : List ℕ) (old new : Seen) : List CollectionFile → Bool → Type 0 where
     -- `-` is standard input
     is_standard : name ≡ codes "-" → new ≡ old
         → LeadsTo name old new (CollectionFile.Input Input.Standard ∷ []) true
-    -- what is at its path is looked at, and what is below that
-    is_path : (file : CollectionFile) (first mid last : SoFar) (inside : List CollectionFile)
-        (fate : Fate) (met : List (CollectionFile × Fate)) → name ≢ codes "-"
-        → HasPath name file → first.folders.keys ≡ [] → first.files ≡ old
-        → LooksAt true file first mid inside fate → Walks inside mid last met → new ≡ last.files
-        → LeadsTo name old new (flat_map kept_of ((file, fate) ∷ met))
-        (list_any counts_as_game ((file, fate) ∷ met))
+    -- any other is a path: what is met there, and below it
+    is_path : (file : CollectionFile) (first last : SoFar) (met : List (CollectionFile × Fate))
+        → name ≢ codes "-" → HasPath name file → first.folders.keys ≡ [] → first.files ≡ old
+        → IsMet true file first last met → new ≡ last.files
+        → LeadsTo name old new (flat_map kept_of met) (list_any counts_as_game met)
 
   -- what names lead to: the files of each after those of the names before it, and the names that
   -- have none, which are reported

@@ -4,7 +4,9 @@ use Rattle.std.specs.Prelude.{Result, Ok, Err, IsOk, ⊤, true, false, codes, if
 use Rattle.std.specs.Prelude.{IfSome, MatchResult}
 use Rattle.std.specs.List.{flat_map}
 use Rattle.std.specs.String.{string_bytes}
+use Rattle.std.specs.IoError.{error_kind}
 use Rattle.std.specs.declared.io.Error.{Error}
+use Rattle.std.specs.declared.io.ErrorKind.{ErrorKind}
 use Rattle.gf_canon.specs.GameFile.{SameFile}
 use Rattle.gf_canon.specs.NamesAside.{IsTextBy}
 use Rattle.gf_canon.specs.SameBy.{SameBy}
@@ -19,7 +21,7 @@ use Rattle.gf_run.specs.Faults.{IsRefusal, answer_status, is_of_second}
 use Rattle.gf_run.specs.Transfers.{IsNotRead, IsReadWhole}
 use Rattle.gf_jobs.specs.LedTo.{AreFilesOf}
 use Rattle.gf_jobs.specs.Listed.{names_in}
-use Rattle.gf_jobs.specs.Opening.{Opener, Opens, OpensFile, OpensNamed, file_of}
+use Rattle.gf_jobs.specs.Opening.{Opener, Opens, OpensFile, file_named, file_of}
 use Rattle.gf_jobs.specs.Reports.{Ends, IsReported, IsSent, IsNamedReport, called, name_of}
 use Rattle.gf_run.specs.Run.{Reads, RunsTwo, Writes}
 use Rattle.gf_jobs.specs.Lines.{ReadsHash, RunsLine, RunsOne}
@@ -35,7 +37,6 @@ use Rattle.gf_run.specs.declared.fault.Which.{Which}
 use Rattle.gf_jobs.specs.declared.jobs.many_files.Task.{Task}
 use Rattle.gf_jobs.specs.declared.jobs.one_file.OneTask.{OneTask}
 use Rattle.gf_jobs.specs.declared.jobs.session.Session.{Session}
-use Rattle.gf_jobs.specs.declared.opening.inputs.Unreplaced.{Unreplaced}
 use Rattle.gf_jobs.specs.declared.opening.kept.Kept.{Kept}
 
 -- what a job works with: what opens inputs, standard output and standard error
@@ -94,9 +95,9 @@ Stays status a b = (status ≡ 0) × (b ≡ a)
 -- ---- a text in the place of each file
 
 -- the fault of a file whose text could not be put in its place
-abbrev pub unreplaced_fault : Unreplaced → RunFault
-unreplaced_fault Unreplaced.Memory = RunFault.Memory
-unreplaced_fault (Unreplaced.System error) = RunFault.Write
+abbrev pub IsUnreplaced : Error → RunFault → Type 0
+IsUnreplaced error fault = (error_kind error ≡ ErrorKind.OutOfMemory → fault ≡ RunFault.Memory)
+    × (error_kind error ≢ ErrorKind.OutOfMemory → fault ≡ RunFault.Write)
 
 -- for what opens inputs and replaces files
 module _ {I S : Type 0} (opener : Opener I S) where
@@ -104,8 +105,8 @@ module _ {I S : Type 0} (opener : Opener I S) where
   abbrev pub IsReplacedBy : CollectionFile → List ℕ → Result ⊤ RunFault → I → I → Type 0
   IsReplacedBy (CollectionFile.Input (Input.File name)) text (Ok done) i i' =
       opener.replaced i (string_bytes name) text (Ok done) i'
-  IsReplacedBy (CollectionFile.Input (Input.File name)) text (Err fault) i i' = (why : Unreplaced)
-      × opener.replaced i (string_bytes name) text (Err why) i' × (fault ≡ unreplaced_fault why)
+  IsReplacedBy (CollectionFile.Input (Input.File name)) text (Err fault) i i' = (error : Error)
+      × opener.replaced i (string_bytes name) text (Err error) i' × IsUnreplaced error fault
   IsReplacedBy file text result i i' = (result ≡ Err RunFault.Write) × (i' ≡ i)
 
   -- what is done about a file that has these bytes
@@ -200,8 +201,8 @@ repeats_of task = Repeats.Kept
 -- for what opens inputs, and what an input reports: which names a collection has, and what is opened to
 -- learn them
 module _ {I S : Type 0} (opener : Opener I S) (reader : Stream S) where
-  -- the words that were given, or `-` if there are none; or those in a list, which is opened once, if
-  -- it reports its bytes
+  -- the names that were given, or `-` if there are none; or the names in a list, which is opened once,
+  -- if the bytes of this list are known
   abbrev pub AreNames : Paths → List (List ℕ) → I → I → Type 0
   AreNames Paths.Standard names i i' = (names ≡ codes "-" ∷ []) × (i' ≡ i)
   AreNames (Paths.Named words) names i i' = (names ≡ map string_bytes words.items) × (i' ≡ i)
@@ -246,25 +247,20 @@ module _ {I S W E : Type 0} (opener : Opener I S) (reader : Stream S) (writer : 
       (Ends (IsReported errors (called (codes "<stdin>") input)) (λ done. 0))
       (CollectionFile.Input input)
 
-  -- the first file is opened, and then the second
+  -- two files are opened at once, before either is read
   pub data PerformsTwo (map : Bool) (names : Names) (first second : List ℕ) (status : ℕ)
       (a b : World I W E) : Type 0 where
-    -- the first could not be opened, and nothing was asked of the second or of the output
-    first_unopened : (error : Error) → OpensNamed opener first a.inputs (Err error) b.inputs
+    -- one of them could not be opened, and nothing was asked of the output
+    one_unopened : (which : Which) (error : Error)
+        → opener.both a.inputs (file_named first) (file_named second) (Err (which, error)) b.inputs
         → b.output ≡ a.output
-        → IsReported errors first (kept_at_first explain) (RunFault.Read Which.First) status
-        a.errors b.errors → PerformsTwo map names first second status a b
-    -- the second could not be
-    second_unopened : (s : S) (mid : I) (error : Error)
-        → OpensNamed opener first a.inputs (Ok s) mid
-        → OpensNamed opener second mid (Err error) b.inputs → b.output ≡ a.output
-        → IsReported errors second (kept_at_first explain) (RunFault.Read Which.Second) status
-        a.errors b.errors → PerformsTwo map names first second status a b
-    -- each was opened once, and the run ended so
-    both_opened : (s s' t t' : Kept S) (mid : I) (result : Result Bool RunFault)
-        → OpensNamed opener first a.inputs (Ok (source_of s)) mid
-        → OpensNamed opener second mid (Ok (source_of t)) b.inputs
-        → bytes_kept s ≡ kept_at_first explain → bytes_kept t ≡ kept_at_first explain
+        → IsReported errors (of_fault {A = Bool} (Err (RunFault.Read which)) first second)
+        (kept_at_first explain) (RunFault.Read which) status a.errors b.errors
+        → PerformsTwo map names first second status a b
+    -- they were, each once, and the run ended so
+    both_opened : (s s' t t' : Kept S) (result : Result Bool RunFault)
+        → opener.both a.inputs (file_named first) (file_named second) (Ok (source_of s, source_of t))
+        b.inputs → bytes_kept s ≡ kept_at_first explain → bytes_kept t ≡ kept_at_first explain
         → RunsTwo (kept_reader reader) (kept_reader reader) writer (IsAnswerBy map names) result
         s s' t t' a.output b.output
         → Ends (IsReported errors (of_fault result first second)) answer_status result

@@ -19,6 +19,6 @@ pub use explain::{Cause, Failed};
 pub use jobs::ending::{answer, report};
 pub use jobs::job::perform;
 pub use jobs::session::Session;
-pub use opening::inputs::{Found, Identity, Inputs, Listing, Unreplaced};
+pub use opening::inputs::{Found, Identity, Inputs, Listing};
 pub use opening::kept::Kept;
 pub use opening::opened::{HostInputs, Opened};

@@ -128,10 +128,10 @@ fn look_at<I: Inputs>(
 
 /// Adds the file at a path, or the game files below the folder there: those whose names end in
 /// `.efg` or `.nfg`, in upper or lower case, those of each folder in the order in which it is listed.
-/// What is hidden, by a name that begins with a full stop, is passed over, unless it is named. No folder
-/// below the path is opened twice, so links may lead anywhere. A name that is not UTF-8 may be that of a game file or
-/// of a folder, so it is added too. `-` is standard input. Returns whether there was any, be it new
-/// or not.
+/// What is hidden, by a name that begins with a full stop, is passed over, unless it is named. No
+/// folder below the path is opened twice, so links may lead anywhere. A name that is not UTF-8 may be
+/// that of a game file or of a folder, so it is added too. `-` is standard input. Returns whether
+/// there was any, be it new or not.
 pub fn push_files<I: Inputs>(
     alloc: Global,
     inputs: &I,

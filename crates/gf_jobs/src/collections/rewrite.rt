@@ -1,8 +1,7 @@
 //! The run that puts the canonical texts of files in their place.
 
-ghost use Rattle.std.specs.Prelude.{◌≡◌};
-ghost use Rattle.gf_jobs.specs.Performs.{IsReplacedBy, IsRewritten, IsSame, Rewrites, RewritesAll};
-ghost use Rattle.gf_jobs.specs.Performs.{RewritesNext, unreplaced_fault, world_of};
+ghost use Rattle.gf_jobs.specs.Performs.{IsReplacedBy, IsRewritten, IsSame, IsUnreplaced, Rewrites};
+ghost use Rattle.gf_jobs.specs.Performs.{RewritesAll, RewritesNext, world_of};
 ghost use Rattle.gf_jobs.specs.inner.Causes.{without_cause};
 
 use crate::collections::file::{CollectionFile, name_of, open_file};
@@ -10,25 +9,26 @@ use crate::collections::progress::Progress;
 use crate::explain::{Cause, Failed};
 use crate::jobs::ending::{report_missing, report_named};
 use crate::jobs::session::Session;
-use crate::opening::inputs::{Inputs, Unreplaced};
+use crate::opening::inputs::Inputs;
 use crate::opening::kept::Kept;
 use gf_canon::Names;
 use gf_nfg::TextPieces;
 use gf_run::{LastError, RunFault, Sink, Which, are_canonical, canon, load};
 use gf_words::Input;
 use std::alloc::Global;
+use std::io;
+use std::io::ErrorKind;
 
-impl From<Unreplaced> for Failed {
-    ghost from_gives = { λ why failed. failed.fault ≡ unreplaced_fault why };
-
-    fn from(why: Unreplaced) -> Failed {
-        match why {
-            Unreplaced::Memory => Failed::from(RunFault::Memory),
-            Unreplaced::System(error) => Failed {
-                fault: RunFault::Write,
-                cause: Cause::Replacing(error),
-            },
-        }
+/// Why a text could not be put in the place of a file.
+fn unreplaced(error: io::Error) -> Failed
+    ensures { IsUnreplaced error result.fault }
+{
+    match error.kind() {
+        ErrorKind::OutOfMemory => Failed::from(RunFault::Memory),
+        _ => Failed {
+            fault: RunFault::Write,
+            cause: Cause::Replacing(error),
+        },
     }
 }
 
@@ -38,7 +38,9 @@ fn replace<I: Inputs>(inputs: &mut I, file: &CollectionFile, text: TextPieces) -
         inputs.old inputs.new }
 {
     match file {
-        CollectionFile::Input(Input::File(name)) => Ok(inputs.replace(name.as_str(), text)?),
+        CollectionFile::Input(Input::File(name)) => {
+            inputs.replace(name.as_str(), text).map_err(unreplaced)
+        }
         _ => Err(Failed::from(RunFault::Write)),
     }
 }

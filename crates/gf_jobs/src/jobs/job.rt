@@ -17,11 +17,11 @@ use std::alloc::Global;
 ///
 /// What the job names is opened, each file once, and the run for it is made:
 ///
-/// - `Canon`: `run_canon_by`.
+/// - `Canon`: `run_canon`, or `run_canon_by` with names aside.
 /// - `Check`: `run_check`.
 /// - `Table`: `run_table`, or `run_table_reduced`.
-/// - `Same`: `run_same_map` if `map` is true, otherwise `run_same_by`. The first file is opened, and
-///   then the second, before either is read.
+/// - `Same`: `run_same_map` if `map` is true, otherwise `run_same`, or `run_same_by` with names aside.
+///   Both files are opened before either is read.
 /// - `CheckCanon`, `CheckAll`, `Hash`: `run_line` for each of the files, as `run_lines` says.
 /// - `WriteCanon`: `run_rewrites`.
 /// - `Duplicates`: `run_duplicates`.

@@ -11,7 +11,8 @@ use crate::opening::inputs::{Inputs, open_kept};
 use gf_canon::Names;
 use gf_form::Strategies;
 use gf_run::{
-    LastError, RunFault, Sink, Source, Which, run_canon_by, run_check, run_table, run_table_reduced,
+    LastError, RunFault, Sink, Source, Which, run_canon, run_canon_by, run_check, run_table,
+    run_table_reduced,
 };
 use gf_words::Input;
 use std::alloc::Global;
@@ -37,7 +38,10 @@ fn run_one<R: Source, W: Sink>(
     ensures { RunsOne R.reader W.writer task result source.old source.new output.old output.new }
 {
     match task {
-        OneTask::Canon(names) => run_canon_by(alloc, source, names, output),
+        OneTask::Canon(names) => match names {
+            Names::Kept => run_canon(alloc, source, output),
+            Names::Aside => run_canon_by(alloc, source, names, output),
+        },
         OneTask::Check => {
             run_check(alloc, source, output)?;
             Ok(())

@@ -9,11 +9,11 @@ ghost use Rattle.gf_jobs.specs.Reports.{Ends, IsReported};
 use crate::explain::cause_of;
 use crate::jobs::ending::{report_explained, report_unopened};
 use crate::jobs::session::Session;
-use crate::opening::inputs::{Inputs, open_named};
+use crate::opening::inputs::{Inputs, file_named};
 use crate::opening::kept::Kept;
 use gf_canon::Names;
 use gf_run::{
-    LastError, RunFault, Sink, Source, Which, answer_status, is_of_second, run_same_by,
+    LastError, RunFault, Sink, Source, Which, answer_status, is_of_second, run_same, run_same_by,
     run_same_map,
 };
 use std::alloc::Global;
@@ -31,10 +31,10 @@ fn run_two<R: Source, W: Sink>(
     ensures { RunsTwo R.reader R.reader W.writer (IsAnswerBy map names) result
         first.old first.new second.old second.new output.old output.new }
 {
-    if map {
-        run_same_map(alloc, first, second, output)
-    } else {
-        run_same_by(alloc, first, second, names, output)
+    match names {
+        _ if map => run_same_map(alloc, first, second, output),
+        Names::Kept => run_same(alloc, first, second, output),
+        Names::Aside => run_same_by(alloc, first, second, names, output),
     }
 }
 
@@ -74,21 +74,11 @@ impl<I: Inputs, P, W: Sink + LastError, E: Sink> Session<'_, '_, '_, '_, I, P, W
             map names a.now b.now result (world_of self.old) (world_of self.new) }
     {
         let (alloc, explain) = (self.alloc, self.explain);
-        let first = match open_named(self.inputs, a) {
-            Ok(first) => first,
-            Err(error) => return report_unopened(
-                alloc,
-                Which::First,
-                error,
-                a,
-                explain,
-                self.errors,
-            ),
-        };
-        let second = match open_named(self.inputs, b) {
-            Ok(second) => second,
-            Err(error) => {
-                return report_unopened(alloc, Which::Second, error, b, explain, self.errors);
+        let (first, second) = match self.inputs.open_both(file_named(a), file_named(b)) {
+            Ok(both) => both,
+            Err((which, error)) => {
+                let name = if which == Which::Second { b } else { a };
+                return report_unopened(alloc, which, error, name, explain, self.errors);
             }
         };
         let mut first = Kept::new(alloc, first, explain);

@@ -1,24 +1,15 @@
 //! What shows which files there are, opens the inputs of a job, and puts a text in the place of one.
 
-ghost use Rattle.std.specs.Prelude.{◌≡◌, Err, IfOk, MatchResult, Ok, map};
+ghost use Rattle.std.specs.Prelude.{◌≡◌, Err, IfOk, MatchResult, Ok, map, option_map};
 ghost use Rattle.gf_jobs.specs.Wrapped.{bytes_kept, kept_at_first, source_of};
-ghost use Rattle.gf_jobs.specs.Opening.{Opener, Opens, OpensNamed, file_of};
+ghost use Rattle.gf_jobs.specs.Opening.{Opener, Opens, file_named, file_of};
 
 use crate::opening::kept::Kept;
 use gf_nfg::TextPieces;
-use gf_run::{LastError, Source};
+use gf_run::{LastError, Source, Which};
 use gf_words::Input;
 use std::alloc::{AllocError, Global};
 use std::io;
-
-/// Why a text was not put in the place of a file.
-#[derive(Clone, Copy)]
-pub enum Unreplaced {
-    /// Memory ran out.
-    Memory,
-    /// The system says why.
-    System(io::Error),
-}
 
 /// Which file or folder something is: its device, and its number there.
 pub type Identity = (u64, u64);
@@ -67,20 +58,27 @@ pub trait Inputs {
     fn open(&mut self, name: &str) -> Result<Self::Opened, io::Error>
         ensures { opener.file self.old name.now result self.new };
 
-    /// Puts a text in the place of the file of this name. After an error the file is as it was.
-    fn replace(&mut self, name: &str, text: TextPieces) -> Result<(), Unreplaced>
+    /// Opens two inputs, the first and then the second: the files of these names, or standard input.
+    /// An error is about one of them, and then neither is open.
+    fn open_both(
+        &mut self,
+        first: Option<&str>,
+        second: Option<&str>,
+    ) -> Result<(Self::Opened, Self::Opened), (Which, io::Error)>
+        ensures { opener.both self.old (option_map (λ name. name.now) first.entry)
+            (option_map (λ name. name.now) second.entry) result self.new };
+
+    /// Puts a text in the place of the file of this name. After an error the file is as it was; the
+    /// error is of the kind `OutOfMemory` if memory ran out.
+    fn replace(&mut self, name: &str, text: TextPieces) -> Result<(), io::Error>
         ensures { opener.replaced self.old name.now text.rest result self.new };
 }
 
-/// Opens what a word names; `-` is standard input.
-pub fn open_named<I: Inputs>(inputs: &mut I, name: &str) -> Result<I::Opened, io::Error>
-    ensures { OpensNamed I.opener name.now inputs.old result inputs.new }
+/// The name of the file that a word names; `-` is standard input, which has none.
+pub fn file_named(word: &str) -> Option<&str>
+    ensures { option_map (λ name. name.now) result ≡ file_named word.now }
 {
-    if name == "-" {
-        Ok(inputs.standard())
-    } else {
-        inputs.open(name)
-    }
+    if word == "-" { None } else { Some(word) }
 }
 
 /// Opens an input.

@@ -1,12 +1,13 @@
 //! The inputs of the program: standard input, and files.
 
-ghost use Rattle.gf_jobs.specs.Wrapped.{host_opener, remaining_of};
+ghost use Rattle.std.specs.Prelude.{IfOk, option_map};
+ghost use Rattle.gf_jobs.specs.Wrapped.{IsOpenedAs, host_opener, remaining_of};
 
-use crate::opening::inputs::{Found, Inputs, Listing, Unreplaced};
+use crate::opening::inputs::{Found, Inputs, Listing};
 use crate::opening::list::push_names;
 use crate::opening::replaced::replace;
 use gf_nfg::TextPieces;
-use gf_run::Counted;
+use gf_run::{Counted, Which};
 use gf_words::LineEnd;
 use std::alloc::AllocError;
 use std::fs::{File, Metadata};
@@ -35,6 +36,9 @@ impl<S: Read, F: Read> Read for Opened<S, F> {
     }
 }
 
+/// An input of the program that is open.
+type HostInput = Counted<Opened<Stdin, File>>;
+
 /// What shows, opens and replaces the files of the program.
 #[derive(Drop)]
 pub struct HostInputs<'a> {
@@ -46,6 +50,16 @@ impl<'a> HostInputs<'a> {
     // No clause: it only lends the runtime.
     pub fn new(rt: &'a HostRuntime) -> HostInputs<'a> {
         HostInputs { rt }
+    }
+
+    /// Opens the file of this name, or standard input.
+    fn open_one(&mut self, name: Option<&str>) -> Result<HostInput, io::Error>
+        ensures { IfOk result (IsOpenedAs (option_map (λ name. name.now) name.entry)) }
+    {
+        match name {
+            None => Ok(self.standard()),
+            Some(name) => self.open(name),
+        }
     }
 }
 
@@ -71,7 +85,7 @@ fn is_whole(read: io::Result<()>) -> Result<bool, AllocError> {
 }
 
 impl Inputs for HostInputs<'_> {
-    type Opened = Counted<Opened<Stdin, File>>;
+    type Opened = HostInput;
 
     ghost opener = { host_opener };
 
@@ -93,15 +107,27 @@ impl Inputs for HostInputs<'_> {
         Ok(Listing { names, is_whole })
     }
 
-    fn standard(&mut self) -> Counted<Opened<Stdin, File>> {
+    fn standard(&mut self) -> HostInput {
         Counted::new(Opened::Standard(self.rt.stdin()))
     }
 
-    fn open(&mut self, name: &str) -> Result<Counted<Opened<Stdin, File>>, io::Error> {
+    fn open(&mut self, name: &str) -> Result<HostInput, io::Error> {
         Ok(Counted::new(Opened::File(fs::open(self.rt, name)?)))
     }
 
-    fn replace(&mut self, name: &str, text: TextPieces) -> Result<(), Unreplaced> {
+    fn open_both(
+        &mut self,
+        first: Option<&str>,
+        second: Option<&str>,
+    ) -> Result<(HostInput, HostInput), (Which, io::Error)> {
+        let first = self.open_one(first).map_err(|error| (Which::First, error))?;
+        let second = self
+            .open_one(second)
+            .map_err(|error| (Which::Second, error))?;
+        Ok((first, second))
+    }
+
+    fn replace(&mut self, name: &str, text: TextPieces) -> Result<(), io::Error> {
         replace(self.rt, name, text)
     }
 }

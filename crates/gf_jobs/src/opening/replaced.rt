@@ -1,10 +1,8 @@
 //! How a text takes the place of a file: it is written to a new file beside it, which is then given
 //! its name.
 
-use crate::opening::inputs::Unreplaced;
 use gf_nfg::TextPieces;
 use gf_run::{Counted, LIMIT, LastError, push_all};
-use std::alloc::AllocError;
 use std::fs::{File, Metadata};
 use std::io::ErrorKind;
 use std::os::unix::fs::{MetadataExt, fchown};
@@ -12,21 +10,6 @@ use std::{fs, io};
 
 /// How many names are tried for the new file.
 const TRIES: u32 = 100;
-
-impl From<AllocError> for Unreplaced {
-    fn from(_: AllocError) -> Unreplaced {
-        Unreplaced::Memory
-    }
-}
-
-impl From<io::Error> for Unreplaced {
-    fn from(error: io::Error) -> Unreplaced {
-        match error.kind() {
-            ErrorKind::OutOfMemory => Unreplaced::Memory,
-            _ => Unreplaced::System(error),
-        }
-    }
-}
 
 /// A file that is not there yet.
 #[derive(Drop)]
@@ -36,17 +19,17 @@ struct NewFile {
 }
 
 /// Makes a new file beside the one at this path. Its name ends with the number of the try.
-fn new_file_beside(rt: &HostRuntime, path: &str) -> Result<NewFile, Unreplaced> {
+fn new_file_beside(rt: &HostRuntime, path: &str) -> Result<NewFile, io::Error> {
     for turn in 0..TRIES {
         let number = turn.to_string(rt.alloc())?;
         let path = [path, ".gamefile-", number.as_str()].concat(rt.alloc())?;
         match File::create_new(rt, path.as_str()) {
             Ok(file) => return Ok(NewFile { path, file }),
             Err(error) if error.kind() == ErrorKind::AlreadyExists => {}
-            Err(error) => return Err(Unreplaced::from(error)),
+            Err(error) => return Err(error),
         }
     }
-    Err(Unreplaced::System(io::Error::from(ErrorKind::AlreadyExists)))
+    Err(io::Error::from(ErrorKind::AlreadyExists))
 }
 
 /// Gives a new file the owner, the group and the permissions of another. Where the system does not
@@ -90,15 +73,15 @@ fn put(
 }
 
 /// Puts a text in the place of the file at this path, which is no link.
-fn replace_at(rt: &HostRuntime, path: &str, text: &mut TextPieces) -> Result<(), Unreplaced> {
+fn replace_at(rt: &HostRuntime, path: &str, text: &mut TextPieces) -> Result<(), io::Error> {
     let found = fs::metadata(rt, path)?;
     if !found.is_file() {
-        return Err(Unreplaced::System(io::Error::from(ErrorKind::InvalidInput)));
+        return Err(io::Error::from(ErrorKind::InvalidInput));
     }
     let mut new = new_file_beside(rt, path)?;
     if let Err(error) = put(rt, path, &found, &mut new, text) {
         let _ = fs::remove_file(rt, new.path.as_str());
-        return Err(Unreplaced::from(error));
+        return Err(error);
     }
     Ok(())
 }
@@ -106,7 +89,7 @@ fn replace_at(rt: &HostRuntime, path: &str, text: &mut TextPieces) -> Result<(),
 /// Puts a text in the place of the file of this name, through links, and with its owner and its
 /// permissions. Only a file can be replaced, no pipe or device, and only by a text that can be read
 /// again.
-pub fn replace(rt: &HostRuntime, name: &str, mut text: TextPieces) -> Result<(), Unreplaced> {
+pub fn replace(rt: &HostRuntime, name: &str, mut text: TextPieces) -> Result<(), io::Error> {
     let path = fs::canonicalize(rt, name)?.into_string();
     replace_at(rt, path.as_str(), &mut text)
 }

@@ -2,8 +2,11 @@ use Rattle.gf_canon.specs.declared.kind.FileKind.{FileKind}
 use Rattle.gf_run.proofs.Offered.{is_error}
 use Rattle.gf_jobs.proofs.jobs.one_file.run_one.Goals as goal
 
-pub returns-in-Canon : goal.returns-in-Canon
-returns-in-Canon g c = rw c.in-Canon.is c.run_canon_by.ensures
+pub returns-in-Kept : goal.returns-in-Kept
+returns-in-Kept g c = rw (c.in-Canon.is, c.in-Kept.is) c.run_canon.ensures
+
+pub returns-in-Aside : goal.returns-in-Aside
+returns-in-Aside g c = rw c.in-Canon.is c.run_canon_by.ensures
 
 pub returns-in_ok-run_check-in-Check : goal.returns-in_ok-run_check-in-Check
 returns-in_ok-run_check-in-Check g c =

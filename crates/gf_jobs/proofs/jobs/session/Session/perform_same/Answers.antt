@@ -1,23 +1,27 @@
-use Rattle.std.proofs.Common.{Ok, refl, subst, sym}
-use Rattle.gf_jobs.specs.Opening.{OpensNamed}
-use Rattle.gf_jobs.specs.Performs.{both_opened, first_unopened, second_unopened}
+use Rattle.std.proofs.Common.{arith, refl}
+use Rattle.gf_jobs.specs.Performs.{both_opened, one_unopened}
+use Rattle.gf_jobs.proofs.Reported.{unopened_one}
 use Rattle.gf_jobs.proofs.jobs.session.Session.perform_same.Goals as goal
+use Rattle.gf_jobs.proofs.jobs.session.Session.perform_same.Goals.{else-eq, then-eq}
 
 pub returns-in-Err-clause-performed : goal.returns-in-Err-clause-performed
 returns-in-Err-clause-performed g c =
-    first_unopened _ c.in-Err.ensures refl c.report_unopened.ensures
-
-pub returns-in-Err-open_named-clause-performed : goal.returns-in-Err-open_named-clause-performed
-returns-in-Err-open_named-clause-performed g c = second_unopened _ _ _ c.in-Ok.ensures
-    c.in-Err-open_named.ensures refl c.report_unopened-in-Err-open_named.ensures
+    let opens = rw (c.file_named.ensures, c.file_named-2.ensures) at c.in-Err.ensures in
+    let name = unopened_one c.in-Err.which c.args.a.now c.args.b.now c.if-eq.name.now
+    (λ is. elim c.if-eq.branch [
+      | then-eq w ↦ grind (arith, w.name-is)
+      | else-eq w ↦ grind (arith, w.if-eq, c.eq.ensures)
+    ])
+    (λ other. elim c.if-eq.branch [
+      | then-eq w ↦ grind (arith, w.if-eq, c.eq.ensures)
+      | else-eq w ↦ grind (arith, w.name-is)
+    ]) in
+    one_unopened c.in-Err.which c.in-Err.error opens refl (rw name at c.report_unopened.ensures)
 
 pub returns-clause-performed : goal.returns-clause-performed
 returns-clause-performed g c =
-    let first = subst (λ s. OpensNamed g.I.Inputs.opener c.args.a.now
-    c.args.self.now.inputs.now (Ok s) c.open_named.new.inputs) (sym c.new-first.ensures.source) c.in-Ok.ensures in
-    let second = subst (λ s. OpensNamed g.I.Inputs.opener c.args.b.now c.open_named.new.inputs
-    (Ok s) c.open_named-2.new.inputs) (sym c.new-second.ensures.source) c.in-Ok-open_named.ensures in
+    let opens = rw (c.file_named.ensures, c.file_named-2.ensures) at c.in-Ok.ensures in
     both_opened c.new-first.result c.run_two-run.new.first c.new-second.result
-    c.run_two-run.new.second c.open_named.new.inputs c.run_two-run.result first second
-    c.new-first.ensures.bytes c.new-second.ensures.bytes c.run_two-run.ensures
-    c.end_of.ensures
+    c.run_two-run.new.second c.run_two-run.result
+    (rw (c.new-first.ensures.source, c.new-second.ensures.source) opens)
+    c.new-first.ensures.bytes c.new-second.ensures.bytes c.run_two-run.ensures c.end_of.ensures
