@@ -4,11 +4,12 @@ ghost use Rattle.std.specs.Prelude.{◌≡◌, IfOk, OnOk};
 ghost use Rattle.gf_explain.specs.Place.{EndsLine};
 ghost use Rattle.gf_jobs.specs.Reports.{IsExplained};
 ghost use Rattle.gf_run.specs.declared.fault.RunFault.{RunFault};
+ghost use Rattle.gf_run.specs.declared.fault.Which.{Which};
 
 use gf_explain::{
     Part, ShownText, form_explanation, push_line, refusal_explanation, said_after, shown_name,
 };
-use gf_run::{LastError, RunFault, short_line_of};
+use gf_run::{LastError, RunFault, Which, short_line_of};
 use std::alloc::{AllocError, Global};
 use std::io;
 
@@ -51,12 +52,23 @@ impl From<AllocError> for Failed {
     }
 }
 
-/// What the system says about a fault of a run over this source and this output.
-pub fn cause_of<S: LastError, W: LastError>(fault: &RunFault, source: &S, output: &W) -> Cause {
-    Cause::Transfer(match fault {
+/// The one input could not be opened or read.
+pub fn unread(cause: Cause) -> Failed
+    ensures { result.fault ≡ RunFault.Read Which.Only }
+{
+    let fault = RunFault::Read(Which::Only);
+    Failed { fault, cause }
+}
+
+/// A fault of a run over this source and this output, with the last error of one of them.
+pub fn failed_run<S: LastError, W: LastError>(fault: RunFault, source: &S, output: &W) -> Failed
+    ensures { result.fault ≡ fault }
+{
+    let cause = Cause::Transfer(match fault {
         RunFault::Write => output.last_error(),
         _ => source.last_error(),
-    })
+    });
+    Failed { fault, cause }
 }
 
 /// Says what failed, and what the system says about that, if it says anything. Where a folder stands in
@@ -64,13 +76,12 @@ pub fn cause_of<S: LastError, W: LastError>(fault: &RunFault, source: &S, output
 fn push_failure(
     alloc: Global,
     text: &mut ShownText,
-    fault: &RunFault,
-    cause: &Cause,
+    failed: &Failed,
     name: &str,
 ) -> Result<(), AllocError>
     ensures { OnOk result (EndsLine text.new) }
 {
-    let (words, named, error) = match (fault, cause) {
+    let (words, named, error) = match (&failed.fault, &failed.cause) {
         (RunFault::Memory, _) => ("out of memory", "", None),
         (_, Cause::Opening(error)) => ("cannot open ", name, Some(*error)),
         (_, Cause::Replacing(error)) => ("cannot replace ", name, Some(*error)),
@@ -95,21 +106,20 @@ fn push_failure(
 /// and a sentence.
 pub fn explanation(
     alloc: Global,
-    fault: &RunFault,
-    cause: &Cause,
+    failed: &Failed,
     name: &str,
     bytes: &[u8],
 ) -> Result<Vec<u8>, AllocError>
-    ensures { IfOk result (λ text. IsExplained fault.now name.now bytes.now text.items) }
+    ensures { IfOk result (λ text. IsExplained failed.now.fault name.now bytes.now text.items) }
 {
-    match fault {
+    match &failed.fault {
         RunFault::Refused { fault, .. } => refusal_explanation(alloc, fault, name, bytes),
         RunFault::Form(fault) => form_explanation(alloc, fault),
         RunFault::Read(_) | RunFault::Write | RunFault::Memory => {
             let called = shown_name(alloc, name)?;
             let mut text = ShownText::new(alloc);
-            push_failure(alloc, &mut text, fault, cause, called.as_str())?;
-            said_after(alloc, short_line_of(fault).as_slice(), &text)
+            push_failure(alloc, &mut text, failed, called.as_str())?;
+            said_after(alloc, short_line_of(&failed.fault).as_slice(), &text)
         }
     }
 }

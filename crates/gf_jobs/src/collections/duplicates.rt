@@ -11,8 +11,8 @@ use crate::collections::file::{CollectionFile, name_of, open_file};
 use crate::collections::groups::Groups;
 use crate::collections::line::hash_of;
 use crate::collections::progress::Progress;
-use crate::explain::Cause;
-use crate::jobs::ending::{nothing_kept, report, report_explained, report_missing, report_named};
+use crate::explain::{Cause, Failed};
+use crate::jobs::ending::{nothing_kept, report, report_explained, report_named};
 use crate::jobs::session::Session;
 use crate::opening::inputs::Inputs;
 use gf_canon::Names;
@@ -50,7 +50,10 @@ impl<I: Inputs, P: Progress, W: Sink + LastError, E: Sink> Session<'_, '_, '_, '
         let (alloc, explain, name) = (self.alloc, self.explain, name_of(file));
         let mut source = match open_file(alloc, self.inputs, file, explain) {
             Ok(source) => source,
-            Err(cause) => return Ok(report_missing(alloc, &cause, name, explain, self.errors)),
+            Err(failed) => {
+                let kept = nothing_kept(explain);
+                return Ok(report_named(alloc, &failed, name, kept, self.errors));
+            }
         };
         match read_hash(alloc, &mut source, names) {
             Ok(hash) => match groups.push(alloc, name, hash) {
@@ -59,7 +62,8 @@ impl<I: Inputs, P: Progress, W: Sink + LastError, E: Sink> Session<'_, '_, '_, '
             },
             Err(fault) => {
                 let cause = Cause::Transfer(source.last_error());
-                Ok(report_named(alloc, &fault, &cause, name, source.bytes(), self.errors))
+                let failed = Failed { fault, cause };
+                Ok(report_named(alloc, &failed, name, source.bytes(), self.errors))
             }
         }
     }
@@ -76,8 +80,8 @@ impl<I: Inputs, P: Progress, W: Sink + LastError, E: Sink> Session<'_, '_, '_, '
             Ok(apart) => answer_status(apart),
             Err(fault) => {
                 let cause = Cause::Transfer(self.output.last_error());
-                let kept = nothing_kept(self.explain);
-                report_explained(self.alloc, &fault, &cause, "", kept, self.errors)
+                let (failed, kept) = (Failed { fault, cause }, nothing_kept(self.explain));
+                report_explained(self.alloc, &failed, "", kept, self.errors)
             }
         }
     }

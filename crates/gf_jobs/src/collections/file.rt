@@ -1,11 +1,13 @@
 //! The files of a collection, and how they are opened.
 
 ghost use Rattle.std.specs.Prelude.{◌≡◌, MatchResult, None, Some};
+ghost use Rattle.gf_run.specs.declared.fault.RunFault.{RunFault};
+ghost use Rattle.gf_run.specs.declared.fault.Which.{Which};
 ghost use Rattle.gf_jobs.specs.Wrapped.{bytes_kept, kept_at_first, source_of};
 ghost use Rattle.gf_jobs.specs.Opening.{OpensFile};
 ghost use Rattle.gf_jobs.specs.Reports.{called, name_of};
 
-use crate::explain::Cause;
+use crate::explain::{Cause, Failed, unread};
 use crate::opening::inputs::{Inputs, open_kept};
 use crate::opening::kept::Kept;
 use gf_words::Input;
@@ -41,23 +43,21 @@ pub(crate) fn name_of(file: &CollectionFile) -> &str
     }
 }
 
-/// Opens a file whose bytes are kept, as they pass, if `keeps` is true; or says why it cannot be
-/// opened.
+/// Opens a file whose bytes are kept, as they pass, if `keeps` is true; or fails with `Read`.
 pub(crate) fn open_file<I: Inputs>(
     alloc: Global,
     inputs: &mut I,
     file: &CollectionFile,
     keeps: bool,
-) -> Result<Kept<I::Opened>, Cause>
+) -> Result<Kept<I::Opened>, Failed>
     ensures { MatchResult result
         (λ kept. OpensFile I.opener file.now inputs.old (Some (source_of kept)) inputs.new
         × (bytes_kept kept ≡ kept_at_first keeps))
-        (λ _. OpensFile I.opener file.now inputs.old None inputs.new) }
+        (λ failed. (failed.fault ≡ RunFault.Read Which.Only)
+        × OpensFile I.opener file.now inputs.old None inputs.new) }
 {
     match file {
-        CollectionFile::Input(input) => {
-            open_kept(alloc, inputs, input, keeps).map_err(Cause::Opening)
-        }
-        CollectionFile::NotText(_) => Err(Cause::Transfer(None)),
+        CollectionFile::Input(input) => open_kept(alloc, inputs, input, keeps),
+        CollectionFile::NotText(_) => Err(unread(Cause::Transfer(None))),
     }
 }

@@ -6,8 +6,8 @@ ghost use Rattle.gf_jobs.specs.Performs.{IsCutOff, IsSame, WritesAll, WritesNext
 use crate::collections::file::{CollectionFile, name_of, open_file};
 use crate::collections::line::{FileLine, run_line};
 use crate::collections::progress::Progress;
-use crate::explain::cause_of;
-use crate::jobs::ending::{report_explained, report_missing, report_named};
+use crate::explain::failed_run;
+use crate::jobs::ending::{nothing_kept, report_explained, report_named};
 use crate::jobs::session::Session;
 use crate::opening::inputs::Inputs;
 use gf_run::{LastError, RunFault, Sink, answer_status};
@@ -26,18 +26,20 @@ impl<I: Inputs, P: Progress, W: Sink + LastError, E: Sink> Session<'_, '_, '_, '
         let (alloc, explain, name) = (self.alloc, self.explain, name_of(file));
         let mut source = match open_file(alloc, self.inputs, file, explain) {
             Ok(source) => source,
-            Err(cause) => return Ok(report_missing(alloc, &cause, name, explain, self.errors)),
+            Err(failed) => {
+                let kept = nothing_kept(explain);
+                return Ok(report_named(alloc, &failed, name, kept, self.errors));
+            }
         };
         let fault = match run_line(alloc, &mut source, name, line, self.output) {
             Ok(good) => return Ok(answer_status(good)),
             Err(fault) => fault,
         };
-        let cause = cause_of(&fault, &source, self.output);
-        let kept = source.bytes();
+        let failed = failed_run(fault, &source, self.output);
         if fault == RunFault::Write {
-            return Err(report_explained(alloc, &fault, &cause, name, kept, self.errors));
+            return Err(report_explained(alloc, &failed, name, source.bytes(), self.errors));
         }
-        Ok(report_named(alloc, &fault, &cause, name, kept, self.errors))
+        Ok(report_named(alloc, &failed, name, source.bytes(), self.errors))
     }
 
     /// Writes a line about each file, in their order, and returns the exit status: the worst of all

@@ -4,16 +4,13 @@ ghost use Rattle.std.specs.Prelude.{◌≡◌, IfErr, IfOk, List, map, ℕ};
 ghost use Rattle.std.specs.String.{string_bytes};
 ghost use Rattle.gf_jobs.specs.LedTo.{AreFilesOf};
 ghost use Rattle.gf_jobs.specs.Performs.{AreNames, IsUnlisted};
-ghost use Rattle.gf_run.specs.declared.fault.RunFault.{RunFault};
-ghost use Rattle.gf_run.specs.declared.fault.Which.{Which};
 
 use crate::collections::file::CollectionFile;
 use crate::collections::folders::push_files;
 use crate::collections::kept_files::{KeptFiles, Repeats};
-use crate::explain::{Cause, Failed};
+use crate::explain::{Cause, Failed, unread};
 use crate::opening::inputs::{Inputs, open_input};
 use crate::opening::list::push_names;
-use gf_run::{RunFault, Which};
 use gf_words::{Input, LineEnd, Paths};
 use std::alloc::{AllocError, Global};
 use std::convert::AsSlice;
@@ -24,14 +21,6 @@ use std::io::ErrorKind;
 pub struct FoundFiles {
     pub files: Vec<CollectionFile>,
     pub without_games: Vec<String>,
-}
-
-/// A list of names that cannot be opened or read.
-fn unread(cause: Cause) -> Failed
-    ensures { result.fault ≡ RunFault.Read Which.Only }
-{
-    let fault = RunFault::Read(Which::Only);
-    Failed { fault, cause }
 }
 
 /// The names in a list, whose lines have this end.

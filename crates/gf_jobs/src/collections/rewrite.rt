@@ -7,7 +7,7 @@ ghost use Rattle.gf_jobs.specs.inner.Causes.{without_cause};
 use crate::collections::file::{CollectionFile, name_of, open_file};
 use crate::collections::progress::Progress;
 use crate::explain::{Cause, Failed};
-use crate::jobs::ending::{report_missing, report_named};
+use crate::jobs::ending::{nothing_kept, report_named};
 use crate::jobs::session::Session;
 use crate::opening::inputs::Inputs;
 use crate::opening::kept::Kept;
@@ -95,13 +95,13 @@ impl<I: Inputs, P: Progress, W, E: Sink> Session<'_, '_, '_, '_, I, P, W, E> {
         let (alloc, explain, name) = (self.alloc, self.explain, name_of(file));
         let mut source = match open_file(alloc, self.inputs, file, explain) {
             Ok(source) => source,
-            Err(cause) => return report_missing(alloc, &cause, name, explain, self.errors),
+            Err(failed) => {
+                return report_named(alloc, &failed, name, nothing_kept(explain), self.errors);
+            }
         };
         match rewrite(alloc, self.inputs, &mut source, file, names) {
             Ok(()) => 0,
-            Err(Failed { fault, cause }) => {
-                report_named(alloc, &fault, &cause, name, source.bytes(), self.errors)
-            }
+            Err(failed) => report_named(alloc, &failed, name, source.bytes(), self.errors),
         }
     }
 

@@ -7,12 +7,11 @@ ghost use Rattle.gf_jobs.specs.Reports.{IsAnswered, IsLineOr, IsNamedExplanation
 ghost use Rattle.gf_jobs.specs.Reports.{IsSent, IsNamedReport};
 ghost use Rattle.gf_jobs.specs.Lines.{after_name};
 
-use crate::explain::{Cause, explanation};
+use crate::explain::{Failed, explanation};
 use gf_explain::shown_name;
-use gf_run::{RunFault, Sink, Which, line_of, push_all, status, write_fault};
+use gf_run::{RunFault, Sink, line_of, push_all, status, write_fault};
 use gf_words::WordsFault;
 use std::alloc::{AllocError, Global};
-use std::io;
 
 /// Writes the line of a fault to standard error, and returns its exit status.
 ///
@@ -31,24 +30,23 @@ pub fn report<E: Sink>(fault: &RunFault, errors: &mut E) -> u8
 /// is written.
 pub(crate) fn report_explained<E: Sink>(
     alloc: Global,
-    fault: &RunFault,
-    cause: &Cause,
+    failed: &Failed,
     name: &str,
     kept: Option<&[u8]>,
     errors: &mut E,
 ) -> u8
-    ensures { IsReported E.writer name.now (option_map (λ bytes. bytes.now) kept.entry) fault.now
-        result errors.old errors.new }
+    ensures { IsReported E.writer name.now (option_map (λ bytes. bytes.now) kept.entry)
+        failed.now.fault result errors.old errors.new }
 {
     let Some(bytes) = kept else {
-        return report(fault, errors);
+        return report(&failed.fault, errors);
     };
-    match explanation(alloc, fault, cause, name, bytes) {
+    match explanation(alloc, failed, name, bytes) {
         Ok(text) => {
             let _ = push_all(errors, text.as_slice());
-            status(fault)
+            status(&failed.fault)
         }
-        Err(_) => report(fault, errors),
+        Err(_) => report(&failed.fault, errors),
     }
 }
 
@@ -58,23 +56,6 @@ pub(crate) fn nothing_kept(explain: bool) -> Option<&'static [u8]>
 {
     let nothing: &[u8] = &[];
     if explain { Some(nothing) } else { None }
-}
-
-/// Reports that the input of this name could not be opened, and returns the exit status. This is
-/// explained if `explain` is true.
-pub(crate) fn report_unopened<E: Sink>(
-    alloc: Global,
-    which: Which,
-    error: io::Error,
-    name: &str,
-    explain: bool,
-    errors: &mut E,
-) -> u8
-    ensures { IsReported E.writer name.now (kept_at_first explain) (RunFault.Read which)
-        result errors.old errors.new }
-{
-    let (fault, cause) = (RunFault::Read(which), Cause::Opening(error));
-    report_explained(alloc, &fault, &cause, name, nothing_kept(explain), errors)
 }
 
 /// A text after the name of its file, as it is shown.
@@ -90,15 +71,15 @@ pub(crate) fn after_name(alloc: Global, name: &str, text: &[u8]) -> Result<Vec<u
 /// A fault in words, after the name of its file.
 fn named_explanation(
     alloc: Global,
-    fault: &RunFault,
-    cause: &Cause,
+    failed: &Failed,
     name: &str,
     bytes: &[u8],
 ) -> Result<Vec<u8>, AllocError>
-    ensures { IfOk result (λ text. IsNamedExplanation fault.now name.now bytes.now text.items) }
+    ensures { IfOk result
+        (λ text. IsNamedExplanation failed.now.fault name.now bytes.now text.items) }
 {
-    let text = explanation(alloc, fault, cause, name, bytes)?;
-    match fault {
+    let text = explanation(alloc, failed, name, bytes)?;
+    match failed.fault {
         // The place of a refusal begins with the name.
         RunFault::Refused { .. } => Ok(text),
         _ => after_name(alloc, name, text.as_slice()),
@@ -108,59 +89,41 @@ fn named_explanation(
 /// What is written about a fault.
 fn named_text(
     alloc: Global,
-    fault: &RunFault,
-    cause: &Cause,
+    failed: &Failed,
     name: &str,
     kept: Option<&[u8]>,
 ) -> Result<Vec<u8>, AllocError>
-    ensures { IfOk result (λ text. IsLineOr (after_name name.now (fault_line fault.now))
-        (IsNamedExplanation fault.now name.now) (option_map (λ bytes. bytes.now) kept.entry)
+    ensures { IfOk result (λ text. IsLineOr (after_name name.now (fault_line failed.now.fault))
+        (IsNamedExplanation failed.now.fault name.now) (option_map (λ bytes. bytes.now) kept.entry)
         text.items) }
 {
     if let Some(bytes) = kept {
-        if let Ok(text) = named_explanation(alloc, fault, cause, name, bytes) {
+        if let Ok(text) = named_explanation(alloc, failed, name, bytes) {
             return Ok(text);
         }
     }
-    after_name(alloc, name, line_of(fault).as_slice())
+    after_name(alloc, name, line_of(&failed.fault).as_slice())
 }
 
 /// Reports the fault of a file after its name, and returns its status. It is explained by the bytes
 /// of the file that were kept, if any were.
 pub(crate) fn report_named<E: Sink>(
     alloc: Global,
-    fault: &RunFault,
-    cause: &Cause,
+    failed: &Failed,
     name: &str,
     kept: Option<&[u8]>,
     errors: &mut E,
 ) -> u8
-    ensures { IsNamedReport E.writer name.now (option_map (λ bytes. bytes.now) kept.entry) fault.now
-        result errors.old errors.new }
+    ensures { IsNamedReport E.writer name.now (option_map (λ bytes. bytes.now) kept.entry)
+        failed.now.fault result errors.old errors.new }
 {
-    match named_text(alloc, fault, cause, name, kept) {
+    match named_text(alloc, failed, name, kept) {
         Ok(text) => {
             let _ = push_all(errors, text.as_slice());
-            status(fault)
+            status(&failed.fault)
         }
         Err(AllocError) => report(&RunFault::Memory, errors),
     }
-}
-
-/// Reports that one of several files could not be opened, as `report_named` does, and returns the
-/// status.
-pub(crate) fn report_missing<E: Sink>(
-    alloc: Global,
-    cause: &Cause,
-    name: &str,
-    explain: bool,
-    errors: &mut E,
-) -> u8
-    ensures { IsNamedReport E.writer name.now (kept_at_first explain) (RunFault.Read Which.Only)
-        result errors.old errors.new }
-{
-    let fault = RunFault::Read(Which::Only);
-    report_named(alloc, &fault, cause, name, nothing_kept(explain), errors)
 }
 
 /// Answers words that ask for no job, and returns the exit status.

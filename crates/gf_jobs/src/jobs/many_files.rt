@@ -54,13 +54,12 @@ fn report_unlisted<E: Sink>(
     ensures { IsListReport E.writer explain failed.now.fault paths.now result
         errors.old errors.new }
 {
-    let Failed { fault, cause } = failed;
-    match (fault, paths) {
+    match (failed.fault, paths) {
         (RunFault::Read(_), Paths::List { list, .. }) => {
             let (name, kept) = (called("-", list), nothing_kept(explain));
-            report_named(alloc, fault, cause, name, kept, errors)
+            report_named(alloc, failed, name, kept, errors)
         }
-        _ => report(fault, errors),
+        _ => report(&failed.fault, errors),
     }
 }
 

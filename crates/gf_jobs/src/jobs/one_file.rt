@@ -4,14 +4,14 @@ ghost use Rattle.gf_jobs.specs.Performs.{IsSame, PerformsOne, world_of};
 ghost use Rattle.gf_jobs.specs.Lines.{RunsOne};
 
 use crate::collections::file::called;
-use crate::explain::cause_of;
-use crate::jobs::ending::{report_explained, report_unopened};
+use crate::explain::failed_run;
+use crate::jobs::ending::{nothing_kept, report_explained};
 use crate::jobs::session::Session;
 use crate::opening::inputs::{Inputs, open_kept};
 use gf_canon::Names;
 use gf_form::Strategies;
 use gf_run::{
-    LastError, RunFault, Sink, Source, Which, run_canon, run_canon_by, run_check, run_table,
+    LastError, RunFault, Sink, Source, run_canon, run_canon_by, run_check, run_table,
     run_table_reduced,
 };
 use gf_words::Input;
@@ -63,15 +63,16 @@ impl<I: Inputs, P, W: Sink + LastError, E: Sink> Session<'_, '_, '_, '_, I, P, W
         let (alloc, name) = (self.alloc, called("<stdin>", input));
         let mut source = match open_kept(alloc, self.inputs, input, self.explain) {
             Ok(source) => source,
-            Err(error) => {
-                return report_unopened(alloc, Which::Only, error, name, self.explain, self.errors);
+            Err(failed) => {
+                let kept = nothing_kept(self.explain);
+                return report_explained(alloc, &failed, name, kept, self.errors);
             }
         };
         match run_one(alloc, &mut source, task, self.output) {
             Ok(()) => 0,
             Err(fault) => {
-                let cause = cause_of(&fault, &source, self.output);
-                report_explained(alloc, &fault, &cause, name, source.bytes(), self.errors)
+                let failed = failed_run(fault, &source, self.output);
+                report_explained(alloc, &failed, name, source.bytes(), self.errors)
             }
         }
     }

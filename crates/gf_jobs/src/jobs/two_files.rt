@@ -6,8 +6,8 @@ ghost use Rattle.gf_jobs.specs.Wrapped.{bytes_kept};
 ghost use Rattle.gf_jobs.specs.Performs.{IsAnswerBy, IsSame, PerformsTwo, of_fault, world_of};
 ghost use Rattle.gf_jobs.specs.Reports.{Ends, IsReported};
 
-use crate::explain::cause_of;
-use crate::jobs::ending::{report_explained, report_unopened};
+use crate::explain::{Cause, Failed, failed_run};
+use crate::jobs::ending::{nothing_kept, report_explained};
 use crate::jobs::session::Session;
 use crate::opening::inputs::{Inputs, file_named};
 use crate::opening::kept::Kept;
@@ -59,8 +59,8 @@ fn end_of<S: LastError, W: LastError, E: Sink>(
             let second_failed = is_of_second(fault);
             let name = if second_failed { b } else { a };
             let source = if second_failed { second } else { first };
-            let cause = cause_of(fault, source, output);
-            report_explained(alloc, fault, &cause, name, source.bytes(), errors)
+            let failed = failed_run(*fault, source, output);
+            report_explained(alloc, &failed, name, source.bytes(), errors)
         }
     }
 }
@@ -78,7 +78,9 @@ impl<I: Inputs, P, W: Sink + LastError, E: Sink> Session<'_, '_, '_, '_, I, P, W
             Ok(both) => both,
             Err((which, error)) => {
                 let name = if which == Which::Second { b } else { a };
-                return report_unopened(alloc, which, error, name, explain, self.errors);
+                let (fault, cause) = (RunFault::Read(which), Cause::Opening(error));
+                let (failed, kept) = (Failed { fault, cause }, nothing_kept(explain));
+                return report_explained(alloc, &failed, name, kept, self.errors);
             }
         };
         let mut first = Kept::new(alloc, first, explain);

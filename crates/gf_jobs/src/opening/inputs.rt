@@ -1,9 +1,13 @@
 //! What shows which files there are, opens the inputs of a job, and puts a text in the place of one.
 
 ghost use Rattle.std.specs.Prelude.{◌≡◌, Err, IfOk, MatchResult, Ok, map, option_map};
+ghost use Rattle.std.specs.declared.io.Error.{Error};
+ghost use Rattle.gf_run.specs.declared.fault.RunFault.{RunFault};
+ghost use Rattle.gf_run.specs.declared.fault.Which.{Which};
 ghost use Rattle.gf_jobs.specs.Wrapped.{bytes_kept, kept_at_first, source_of};
 ghost use Rattle.gf_jobs.specs.Opening.{Opener, Opens, file_named, file_of};
 
+use crate::explain::{Cause, Failed, unread};
 use crate::opening::kept::Kept;
 use gf_nfg::TextPieces;
 use gf_run::{LastError, Source, Which};
@@ -91,17 +95,21 @@ pub fn open_input<I: Inputs>(inputs: &mut I, input: &Input) -> Result<I::Opened,
     }
 }
 
-/// Opens an input whose bytes are kept, as they pass, if `keeps` is true.
+/// Opens an input whose bytes are kept, as they pass, if `keeps` is true; or fails with `Read`.
 pub fn open_kept<I: Inputs>(
     alloc: Global,
     inputs: &mut I,
     input: &Input,
     keeps: bool,
-) -> Result<Kept<I::Opened>, io::Error>
+) -> Result<Kept<I::Opened>, Failed>
     ensures { MatchResult result
         (λ kept. Opens I.opener (file_of input.now) inputs.old (Ok (source_of kept)) inputs.new
         × (bytes_kept kept ≡ kept_at_first keeps))
-        (λ error. Opens I.opener (file_of input.now) inputs.old (Err error) inputs.new) }
+        (λ failed. (failed.fault ≡ RunFault.Read Which.Only) × ((error : Error)
+        × Opens I.opener (file_of input.now) inputs.old (Err error) inputs.new)) }
 {
-    Ok(Kept::new(alloc, open_input(inputs, input)?, keeps))
+    match open_input(inputs, input) {
+        Ok(source) => Ok(Kept::new(alloc, source, keeps)),
+        Err(error) => Err(unread(Cause::Opening(error))),
+    }
 }

@@ -6,7 +6,11 @@ pub returns-in-Err-clause-next : goal.returns-in-Err-clause-next
 returns-in-Err-clause-next g c = λ files is. (
   files,
   is,
-  unopened c.in-Err.ensures refl (rw c.name_of-name.ensures at c.report_missing.ensures),
+  unopened c.in-Err.ensures.1 refl (rw (
+    c.name_of-name.ensures,
+    c.nothing_kept-kept.ensures,
+    c.in-Err.ensures.0,
+  ) at c.report_named.ensures),
 )
 
 pub returns-in-Ok-push-clause-next : goal.returns-in-Ok-push-clause-next
@@ -33,5 +37,5 @@ returns-clause-next g c = λ files is. (
   is,
   opened (Err c.in-Err-read_hash.fault) _ _ _ c.in-Ok.ensures.0 c.in-Ok.ensures.1
       (refl, refl, c.in-Err-read_hash.ensures)
-      (rw (c.name_of-name.ensures, c.bytes.ensures) at c.report_named.ensures),
+      (rw (c.name_of-name.ensures, c.bytes.ensures) at c.report_named-in-Err-read_hash.ensures),
 )

@@ -4,7 +4,11 @@ use Rattle.gf_jobs.proofs.jobs.session.Session.perform_one.Goals as goal
 
 pub returns-in-Err-clause-performed : goal.returns-in-Err-clause-performed
 returns-in-Err-clause-performed g c =
-    unopened (_, c.in-Err.ensures) refl (rw c.called-name.ensures at c.report_unopened.ensures)
+    unopened c.in-Err.ensures.1 refl (rw (
+      c.called-name.ensures,
+      c.nothing_kept-kept.ensures,
+      c.in-Err.ensures.0,
+    ) at c.report_explained.ensures)
 
 pub returns-in-Ok-run_one-clause-performed : goal.returns-in-Ok-run_one-clause-performed
 returns-in-Ok-run_one-clause-performed g c = opened (Ok tt) _ _ _ c.in-Ok.ensures.0
@@ -13,4 +17,5 @@ returns-in-Ok-run_one-clause-performed g c = opened (Ok tt) _ _ _ c.in-Ok.ensure
 pub returns-clause-performed : goal.returns-clause-performed
 returns-clause-performed g c = opened (Err c.in-Err-run_one.fault) _ _ _ c.in-Ok.ensures.0
     c.in-Ok.ensures.1 (refl, c.in-Err-run_one.ensures)
-    (rw (c.called-name.ensures, c.bytes.ensures) at c.report_explained.ensures)
+    (rw (c.called-name.ensures, c.bytes.ensures, c.failed_run-failed.ensures) at
+    c.report_explained-in-Err-run_one.ensures)

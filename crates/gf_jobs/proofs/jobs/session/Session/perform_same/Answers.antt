@@ -16,7 +16,8 @@ returns-in-Err-clause-performed g c =
       | then-eq w ↦ grind (arith, w.if-eq, c.eq.ensures)
       | else-eq w ↦ grind (arith, w.name-is)
     ]) in
-    one_unopened c.in-Err.which c.in-Err.error opens refl (rw name at c.report_unopened.ensures)
+    one_unopened c.in-Err.which c.in-Err.error opens refl
+    (rw (name, c.nothing_kept-kept.ensures) at c.report_explained.ensures)
 
 pub returns-clause-performed : goal.returns-clause-performed
 returns-clause-performed g c =
