@@ -1,5 +1,8 @@
 //! The arguments that the program was started with.
 
+ghost use Rattle.std.specs.Prelude.{◌≡◌, IfOk, map};
+ghost use Rattle.std.specs.String.{string_bytes};
+
 use gf_words::{Request, WordsFault, parse_request};
 use std::alloc::{AllocError, Global};
 use std::env;
@@ -47,7 +50,12 @@ fn arguments_given<R: Env>(rt: &R, alloc: Global) -> Result<Vec<String>, WordsFa
     }
 }
 
-fn words_of<'a>(alloc: Global, arguments: &'a [String]) -> Result<Vec<&'a str>, AllocError> {
+/// The words that the arguments are, in their order.
+#[tactic(auto, using(std::proofs::lemmas::List::map_more, std::proofs::lemmas::List::take_all))]
+fn words_of<'a>(alloc: Global, arguments: &'a [String]) -> Result<Vec<&'a str>, AllocError>
+    ensures { IfOk result
+        (λ words. map (λ word. word.now) words.items ≡ map string_bytes arguments.now) }
+{
     let mut words = Vec::new(alloc);
     for argument in arguments {
         words.push(argument.as_str())?;
