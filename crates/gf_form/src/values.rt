@@ -7,4 +7,5 @@ pub(crate) mod nodes;
 pub(crate) mod payoffs;
 pub(crate) mod positions;
 pub(crate) mod rows;
+pub(crate) mod still;
 pub(crate) mod walk;

@@ -1,4 +1,5 @@
 pub mod Plays
+pub mod Still
 pub mod BottomUp
 pub mod ValuesComputed
 pub mod Walks

@@ -82,16 +82,27 @@ impl<'g, 'a> Written<'g, 'a> {
         })
     }
 
-    /// Takes the list of the game's nodes, which is made for the first walk.
-    fn take_nodes(&mut self, game: &'g Game<'a>) -> Result<Nodes<'g, 'a>, AllocError>
-        requires { IfSome self.old.nodes (AreNodesOf game.now) }
-        ensures nodes { IfOk result (AreNodesOf game.entry.now) }
+    /// Takes the list of the game's nodes, which is made for the first walk, to the profile with
+    /// this number.
+    fn take_nodes(
+        &mut self,
+        asked: &Asked<'_, 'g, 'a>,
+        profile: u32,
+    ) -> Result<Nodes<'g, 'a>, AllocError>
+        requires asked { IsAsked asked.now }
+        requires within { profile < length (full_profiles asked.now.game.now) }
+        requires nodes { IfSome self.old.nodes (AreNodesOf asked.now.game.now) }
+        ensures nodes { IfOk result (AreNodesOf asked.entry.now.game.now) }
         ensures rows { self.new.rows ≡ self.old.rows }
     {
-        match self.nodes.take() {
-            Some(nodes) => Ok(nodes),
-            None => Nodes::new(self.alloc, game),
+        if let Some(nodes) = self.nodes.take() {
+            return Ok(nodes);
         }
+        let mut nodes = Nodes::new(self.alloc, asked.game)?;
+        let choices = Choices::OfProfile(profile, asked.digits);
+        let spare = &mut self.spare_rows;
+        nodes.find_still(self.alloc, asked.game, asked.payoffs, choices, spare)?;
+        Ok(nodes)
     }
 
     /// Appends the row of the profile at this place, from 0, by a walk.
@@ -104,7 +115,7 @@ impl<'g, 'a> Written<'g, 'a> {
         ensures refused { IsRightlyRefused asked.now result }
     {
         let number = asked.numbers[before as usize];
-        let nodes = self.take_nodes(asked.game)?;
+        let nodes = self.take_nodes(asked, number)?;
         match row_by_walk(self.alloc, asked, &nodes, number, &mut self.spare_rows) {
             Ok(row) => {
                 self.nodes = Some(nodes);

@@ -50,7 +50,7 @@ pub(crate) fn expected_with<'g, 'a>(
         nodes,
         choices,
     };
-    let mut row = walk.value(alloc, spare)?;
+    let mut row = walk.value(alloc, 0, spare)?;
     write_out(&mut row, players)?;
     Ok(row)
 }

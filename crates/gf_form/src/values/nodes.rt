@@ -1,13 +1,15 @@
 //! The nodes of a game in a list in which the children of a node stand one after another, so that
 //! a child is found without going past those before it.
 
-ghost use Rattle.std.specs.Prelude.{◌≡◌, ◌<◌, ◌++◌, ℕ, None, Some, IfOk, MatchOption, OnOk, length};
-ghost use Rattle.std.specs.Prelude.{map, slice_get};
+ghost use Rattle.std.specs.Prelude.{◌≡◌, ◌<◌, ◌++◌, ℕ, None, Some, IfOk, IfSome, MatchOption, OnOk};
+ghost use Rattle.std.specs.Prelude.{length, map, slice_get};
 ghost use Rattle.gf_tree.specs.Branches.{game_of, tree_of};
 ghost use Rattle.gf_tree.specs.Game.{Game};
 ghost use Rattle.gf_tree.specs.Subtrees.{child_trees};
 ghost use Rattle.gf_form.specs.inner.values.NodeLists.{AreNodesOf, AreOf, tree_at};
+ghost use Rattle.gf_form.specs.inner.values.Still.{IsStillRow};
 
+use gf_fraction::Fraction;
 use gf_tree::{Branch, Game};
 use std::alloc::{AllocError, Global};
 
@@ -30,9 +32,12 @@ fn push_children<'g, 'a>(
 /// All nodes of a game, the root first.
 #[derive(Drop)]
 pub(crate) struct Nodes<'g, 'a> {
-    branches: Vec<Branch<'g, 'a>>,
+    pub branches: Vec<Branch<'g, 'a>>,
     /// The place of the first child of each, from 0.
     firsts: Vec<usize>,
+    /// The values of the subtree at each, if they are known and no choice changes them. Empty until
+    /// they are looked for.
+    pub still: Vec<Option<Vec<Fraction>>>,
 }
 
 impl<'g, 'a> Nodes<'g, 'a> {
@@ -48,7 +53,11 @@ impl<'g, 'a> Nodes<'g, 'a> {
             firsts.push(branches.len())?;
             push_children(&mut branches, node)?;
         }
-        Ok(Nodes { branches, firsts })
+        Ok(Nodes {
+            branches,
+            firsts,
+            still: Vec::new(alloc),
+        })
     }
 
     /// The node at this place, with the branches below it.
@@ -75,5 +84,13 @@ impl<'g, 'a> Nodes<'g, 'a> {
             return None;
         }
         Some(self.firsts[at] + before)
+    }
+
+    /// The values of the subtree at this place, if they are known and no choice changes them.
+    pub(crate) fn still_row(&self, at: usize) -> Option<&[Fraction]>
+        ensures { (g : Game) → AreNodesOf g self.now
+            → IfSome result (λ row. IsStillRow g (tree_at g self.now at) row.now) }
+    {
+        self.still.get(at)?.as_deref()
     }
 }

@@ -70,7 +70,7 @@ pub(crate) fn chance_of(node: &Branch<'_, '_>, position: usize) -> Fraction
 
 impl<'g, 'a> Walk<'_, 'g, 'a> {
     /// The node at a place, with the branches below it.
-    fn branch(&self, node: usize) -> Branch<'g, 'a>
+    pub(crate) fn branch(&self, node: usize) -> Branch<'g, 'a>
         requires walk { IsWalk self.now }
         requires there { IsThere self.now node }
         ensures tree { tree_of result ≡ tree_there self.now node }
@@ -80,7 +80,7 @@ impl<'g, 'a> Walk<'_, 'g, 'a> {
     }
 
     /// The child of a node after so many others. `None` if there is none.
-    fn child(&self, node: usize, before: usize) -> Option<usize>
+    pub(crate) fn child(&self, node: usize, before: usize) -> Option<usize>
         requires walk { IsWalk self.now }
         requires there { IsThere self.now node }
         ensures { MatchOption result
@@ -160,7 +160,7 @@ impl<'g, 'a> Walk<'_, 'g, 'a> {
         self.child(node, action.checked_sub(1)?)
     }
 
-    /// Goes into a node.
+    /// Goes into a node. If its values are known, they are copied.
     fn enter(&self, node: usize, spare: &mut Vec<Vec<Fraction>>) -> Result<Next, EvalFault>
         requires some_player { 0 < length self.now.game.now.players }
         requires walk { IsWalk self.now }
@@ -177,6 +177,9 @@ impl<'g, 'a> Walk<'_, 'g, 'a> {
             return Ok(Next::Value(row_of(spare, payoffs)?));
         };
         if player == 0 {
+            if let Some(row) = self.nodes.still_row(node) {
+                return Ok(Next::Value(row_of(spare, row)?));
+            }
             return self.draw(node, 0, row_of(spare, &[])?);
         }
         let action = self.action(node, player, position);
@@ -221,23 +224,25 @@ impl<'g, 'a> Walk<'_, 'g, 'a> {
         }
     }
 
-    /// The value of the whole tree for each player. The row is empty if each value is zero.
+    /// The value of the subtree at a place for each player. The row is empty if each value is zero.
     #[tactic(auto, using(crate::proofs::lemmas::values::Walks::whole_steps))]
     pub(crate) fn value(
         &self,
         alloc: Global,
+        node: usize,
         spare: &mut Vec<Vec<Fraction>>,
     ) -> Result<Vec<Fraction>, EvalFault>
         requires some_player { 0 < length self.now.game.now.players }
         requires walk { IsWalk self.now }
+        requires there { IsThere self.now node }
         ensures row { IfOk result (λ row. IsRow (length self.now.game.now.players) row.items) }
         ensures values { IfOk result (λ row. (k : ℕ)
-            → tree_value self.now k self.now.game.now.tree ≡ Some (at_place row.items k)) }
+            → tree_value self.now k (tree_there self.now node) ≡ Some (at_place row.items k)) }
         ensures overflow { IsErrOf result EvalFault.Overflow
-            → Lacks self.now (λ k. tree_value self.now k self.now.game.now.tree) }
+            → Lacks self.now (λ k. tree_value self.now k (tree_there self.now node)) }
     {
         let mut open = Vec::new(alloc);
-        let mut next = self.enter(0, spare)?;
+        let mut next = self.enter(node, spare)?;
         loop {
             next = match next {
                 Next::Child { node, child } => {

@@ -19,6 +19,7 @@ use Rattle.gf_tree.specs.Description.{AreActions}
 use Rattle.gf_form.proofs.lemmas.strategies.Chosen.{next_position, all_in_turn, zip_in_turn}
 use Rattle.gf_form.proofs.lemmas.strategies.Chosen.{each_set, set_is}
 use Rattle.gf_form.proofs.lemmas.rows.Descents.{set_there}
+use Rattle.gf_form.proofs.lemmas.values.Walks.{root_there}
 use Rattle.gf_form.proofs.lemmas.values.ValuesComputed.{probability_fraction, none_computed}
 use Rattle.gf_form.proofs.lemmas.values.ValuesComputed.{payoff_above, each_action, fraction_at, value_is}
 
@@ -369,4 +370,4 @@ module _ (g : Game) (game : IsGame g) (spellable : IsSpellable g) (choices : Set
 
 pub ruleset payoffs_by_plays = (one_value, value_is_payoff)
 
-pub ruleset payoff_steps = (are_payoffs, lacks_value, length-map)
+pub ruleset payoff_steps = (are_payoffs, lacks_value, length-map, root_there)

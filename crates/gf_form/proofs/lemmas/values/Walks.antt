@@ -14,6 +14,7 @@ use Common.{game_of, list_of, plus_of, reverse, tree_at, tree_of, Global, IsGame
 use Common.{branch, eq-eqb, get_or, has_at, length, nat_eq, row_at, set_at, sum_by, Ratio, Trees}
 use Common.{arith, value, Game, List, Node, None, Some, Tree, drop, more, none, paid, refl, zero}
 use Common.{◌++◌, ◌==◌, Vec, inl, inr, map, suc, sym, ◌+◌, ◌<◌, ◌∙◌, ◌∷◌, ◌≡◌, ◌≤◌, [], ap, rules}
+use Common.{common_steps}
 use Rattle.std.proofs.lemmas.List.Quantifiers.{position-Some}
 use Rattle.gf_form.proofs.lemmas.values.ValuesComputed.{none_stays, payoffs_of}
 use Rattle.gf_form.proofs.lemmas.strategies.Chosen.{each_described}
@@ -307,6 +308,12 @@ module _ (g : Game) (branches next : List Branch) (firsts : List ℕ) (node : Br
       → sizes (drop (length on) (map tree_of next))
       < sizes (drop (length firsts) (map tree_of branches))
   sizes_fall on long = grind (arith, there, less_left, counted)
+
+-- ---- the root
+
+pub root_there : (g : Game) (ns : Nodes) → AreNodesOf g ns
+    → (0 < length ns.branches.items) × (tree_at g ns 0 ≡ g.tree)
+root_there g ns are = grind (arith, common_steps, are.root)
 
 -- ---- a child
 

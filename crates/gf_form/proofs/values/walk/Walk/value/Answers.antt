@@ -1,4 +1,4 @@
-use Rattle.gf_form.proofs.Common.{common_steps, reverse, arith, ◌∷◌}
+use Rattle.gf_form.proofs.Common.{reverse, arith, ◌∷◌}
 use Rattle.gf_form.proofs.lemmas.values.Walks.{turned, stops}
 use Rattle.gf_form.proofs.values.walk.Walk.value.Goals as goal
 
@@ -17,12 +17,3 @@ returns-in_err-next-in-Child-clause-overflow c h =
     let now = rw c.in-Child.is at c.loop-next.invariant in
     stops c.args.self.now _ _ (c.in-Child.node ∷ reverse c.loop-next.open.items) now.2
     (c.in_err-next-in-Child.ensures.overflow (grind arith))
-
-pub enter-requires-clause-there : goal.enter-requires-clause-there
-enter-requires-clause-there c = grind (arith, common_steps)
-
-pub returns-in_err-next-clause-overflow : goal.returns-in_err-next-clause-overflow
-returns-in_err-next-clause-overflow c = grind (arith, common_steps)
-
-pub loop-next-init : goal.loop-next-init
-loop-next-init c = grind (arith, common_steps)
