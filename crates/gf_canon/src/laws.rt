@@ -1,6 +1,11 @@
 //! Laws of the definitions, each as the contract of a function that does nothing.
 
 ghost use Rattle.std.specs.Prelude.{◌≡◌, ◌↔◌, ◌⊎◌, Bool, Decides, List, ℕ, length, map};
+ghost use Rattle.std.specs.List.{AllByRecursion};
+ghost use Rattle.gf_token.specs.BeginsInBytes.{BeginsInBytes};
+ghost use Rattle.gf_token.specs.Place.{Begins};
+ghost use Rattle.gf_token.specs.Token.{Token};
+ghost use Rattle.gf_token.specs.TokenSpelling.{IsSpelled};
 ghost use Rattle.gf_token.specs.declared.fault.Span.{Span};
 ghost use Rattle.gf_token.specs.declared.fault.Why.{Why};
 ghost use Rattle.gf_nfg.specs.Profiles.{positions};
@@ -29,7 +34,7 @@ ghost use Rattle.gf_canon.specs.GameText.{game_text};
 ghost use Rattle.gf_canon.specs.IsGameFile.{IsGameFile};
 ghost use Rattle.gf_canon.specs.CanonicalFile.{canonical_file};
 ghost use Rattle.gf_canon.specs.CanonicalText.{IsCanonicalText, SpellsWithin, MeanSame};
-ghost use Rattle.gf_canon.specs.Judgement.{IsRefused, IsRefusedWith};
+ghost use Rattle.gf_canon.specs.Judgement.{IsInEitherFormat, IsRefused, IsRefusedWith};
 ghost use Rattle.gf_canon.specs.NamesAside.{IsTextBy, SameAsideNames, unnamed};
 ghost use Rattle.gf_canon.specs.SameBy.{SameBy};
 ghost use Rattle.gf_token.specs.declared.names.Names.{Names};
@@ -69,6 +74,16 @@ pub fn headline()
     ensures placed { (bytes : List ℕ) (why : Why) (span : Span) → IsRefused why bytes span
         → IsRefusedWith bytes (record { span = span; why = why }) }
 {}
+
+/// Among the files of the language of both formats are those that bytes can spell: tokens that can
+/// be spelled begin such a file exactly if they begin one that some bytes spell.
+pub fn begins_in_bytes()
+    ensures { (tokens : List Token) → AllByRecursion IsSpelled tokens
+        → Begins IsInEitherFormat tokens ↔ BeginsInBytes IsInEitherFormat tokens }
+{
+    gf_tree::laws::begins_in_bytes();
+    gf_nfg::laws::begins_in_bytes();
+}
 
 /// Sameness of files is reflexive, symmetric and transitive, with names or without.
 pub fn same_is_equivalence()
