@@ -1,6 +1,11 @@
 //! Laws of the definitions, each as the contract of a function that does nothing.
 
 ghost use Rattle.std.specs.Prelude.{◌≡◌, ◌↔◌, ◌⊎◌, Bool, Decides, List, ℕ, length, map};
+ghost use Rattle.std.specs.List.{AllByRecursion};
+ghost use Rattle.gf_token.specs.BeginsInBytes.{BeginsInBytes};
+ghost use Rattle.gf_token.specs.Place.{Begins};
+ghost use Rattle.gf_token.specs.Token.{Token};
+ghost use Rattle.gf_token.specs.TokenSpelling.{IsSpelled};
 ghost use Rattle.gf_token.specs.declared.fault.Span.{Span};
 ghost use Rattle.gf_token.specs.declared.fault.Why.{Why};
 ghost use Rattle.gf_nfg.specs.Profiles.{positions};
@@ -29,7 +34,7 @@ ghost use Rattle.gf_canon.specs.GameText.{game_text};
 ghost use Rattle.gf_canon.specs.IsGameFile.{IsGameFile};
 ghost use Rattle.gf_canon.specs.CanonicalFile.{canonical_file};
 ghost use Rattle.gf_canon.specs.CanonicalText.{IsCanonicalText, SpellsWithin, MeanSame};
-ghost use Rattle.gf_canon.specs.Judgement.{IsRefused, IsRefusedWith};
+ghost use Rattle.gf_canon.specs.Judgement.{IsInEitherFormat, IsRefused, IsRefusedWith};
 ghost use Rattle.gf_canon.specs.NamesAside.{IsTextBy, SameAsideNames, unnamed};
 ghost use Rattle.gf_canon.specs.SameBy.{SameBy};
 ghost use Rattle.gf_token.specs.declared.names.Names.{Names};
@@ -41,13 +46,14 @@ ghost use Rattle.gf_canon.specs.WorkedGames.{renamed_prize, seen, two_prizes, un
 /// texts, and is never refused at two places or for two reasons.
 ///
 /// If two lists of bytes have canonical texts, these are equal exactly when the bytes mean the
-/// same. Two trees do if some renumbering of information sets, player by player, and of outcomes
-/// carries one to the other; two tables do if title, comment, players, strategies and the payoffs
-/// at each profile agree; a tree and a table never do. A canonical text is its own canonical text,
-/// and means the canonical game, or the table.
+/// same. Two trees do exactly when some renumbering of information sets, player by player, and of
+/// outcomes carries one to the other; two tables exactly when title, comment, players, strategies
+/// and the payoffs at each profile agree; a tree and a table never. A canonical text is its own
+/// canonical text, and means the canonical game, or the table.
 ///
 /// A refusal stands at the offending place in the language of both formats, or where the profiles
-/// of a table pass their limit, with the reason that the format gives there.
+/// of a table pass their limit, with the reason of the format that the first token names, or of a
+/// place where a format is due.
 pub fn headline()
     ensures text_or_refusal { (bytes : List ℕ) → ((text : List ℕ) × IsCanonicalText bytes text)
         ⊎ ((why : Why) × (span : Span) × IsRefused why bytes span) }
@@ -70,7 +76,17 @@ pub fn headline()
         → IsRefusedWith bytes (record { span = span; why = why }) }
 {}
 
-/// Sameness of files is reflexive, symmetric and transitive, with names or without.
+/// Among the files of the language of both formats are those that bytes can spell: tokens that can
+/// be spelled begin such a file exactly if they begin one that some bytes spell.
+pub fn begins_in_bytes()
+    ensures { (tokens : List Token) → AllByRecursion IsSpelled tokens
+        → Begins IsInEitherFormat tokens ↔ BeginsInBytes IsInEitherFormat tokens }
+{
+    gf_tree::laws::begins_in_bytes();
+    gf_nfg::laws::begins_in_bytes();
+}
+
+/// With names or without, sameness is transitive, and reflexive and symmetric for games and tables.
 pub fn same_is_equivalence()
     ensures reflexive { (names : Names) (x : GameFile) → IsGameFile x → SameBy names x x }
     ensures symmetric { (names : Names) (x y : GameFile) → IsGameFile x → SameBy names x y
@@ -88,8 +104,7 @@ pub fn carried_by_parts()
         → Carries r g h ↔ CarriesParts r g h }
 {}
 
-/// No two renumberings carry one game to another: they give the game's sets and outcomes the same
-/// new numbers.
+/// Renumberings that carry one game to another agree at the game's own sets and outcomes.
 pub fn one_renumbering()
     ensures sets { (r s : Renumbering) (g h : Game) → Carries r g h → Carries s g h
         → (player number : ℕ) → HasSet g player number → r.set player number ≡ s.set player number }
@@ -143,8 +158,8 @@ pub fn canonical_game_is_same()
     ensures again { (g : Game) → IsGame g → canonical_game (canonical_game g) ≡ canonical_game g }
 {}
 
-/// Two games are the same exactly when their canonical games are equal. So are two tables; a game
-/// and a table never are.
+/// Two games are the same exactly when their canonical games are equal, and two tables exactly when
+/// they are equal; a game and a table never are.
 #[tactic(auto, using(crate::proofs::lemmas::files::Texts::by_canonical))]
 pub fn same_by_canonical_game()
     ensures games { (g h : Game) → IsGame g → IsGame h
@@ -154,7 +169,7 @@ pub fn same_by_canonical_game()
 {}
 
 /// Every game has exactly one file tree in which the first uses are described and no others; its
-/// nodes are those of the game's text. So the games are those that some consistent file tree has.
+/// nodes are those of the game's text. So the games are those that some consistent file tree means.
 #[tactic(auto, using(crate::proofs::lemmas::texts::OneFile::files_of_games))]
 pub fn file_of_each_game()
     ensures some { (g : Game) → IsGame g
@@ -163,8 +178,8 @@ pub fn file_of_each_game()
     ensures are_games { (g : Game) → IsGame g ↔ ((f : FileTree) × IsConsistent f × IsGameOf f g) }
 {}
 
-/// The text of a game is an extensive file that means this game, so different games have different
-/// texts. If a file can hold a game, it can also hold its canonical game.
+/// The text of a game that a file can hold is an extensive file that means this game, so different
+/// ones have different texts. A file can hold the canonical game too.
 #[tactic(auto, using(crate::proofs::lemmas::files::Texts::game_texts))]
 pub fn text_reads_back()
     ensures reads_back { (g : Game) → IsGame g → IsSpellable g → SpellsGame (game_text g) g }
