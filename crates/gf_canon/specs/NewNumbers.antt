@@ -28,8 +28,8 @@ new_numbers r = record {
   outcome = λ number. unwrap_or (new_outcome_number r number) 0;
 }
 
--- Exactly the sets and outcomes of g have new numbers, and so has 0. These carry g to h, and no
--- others do.
+-- Exactly the sets and outcomes of g have new numbers, and so has 0. These carry g to h, and whatever
+-- does so gives them these numbers.
 pub record IsOnlyRenumbering (r : NewNumbers) (g h : Game) : Type 0 where
   pub sets : (player number : ℕ) → IsSome (new_set_number r player number) ↔ HasSet g player number
   pub outcomes : (number : ℕ) → IsSome (new_outcome_number r number)

@@ -58,8 +58,8 @@ fn text_of(alloc: Global, input: &[u8], names: Names) -> Result<TextPieces, Faul
 /// - E2: the first token is an unterminated text; at its opening quote.
 /// - E3: the first token is anything other than these words, or there is none; at that place.
 /// - E19: memory for the text is refused; at the token that needed it, or, for lines that are made
-///   after a table was read, at the end. There was nothing else to refuse. Room for the whole text
-///   is made, although most of it is not touched unless the text is made whole.
+///   after a table was read, at the end. Up to there, there was nothing else to refuse. Room for the
+///   whole text is made, although most of it is not touched unless the text is made whole.
 pub fn canonical_text(alloc: Global, input: &[u8], names: Names) -> Result<TextPieces, Fault>
     ensures text { IfOk result (λ text. IsTextBy names input.now text.rest) }
     ensures ungiven { IfOk result IsUngiven }

@@ -76,8 +76,7 @@ pub fn headline()
         → IsRefusedWith bytes (record { span = span; why = why }) }
 {}
 
-/// Among the files of the language of both formats are those that bytes can spell: tokens that can
-/// be spelled begin such a file exactly if they begin one that some bytes spell.
+/// Tokens that can be spelled begin some file of either format exactly if they begin one that some bytes spell.
 pub fn begins_in_bytes()
     ensures { (tokens : List Token) → AllByRecursion IsSpelled tokens
         → Begins IsInEitherFormat tokens ↔ BeginsInBytes IsInEitherFormat tokens }

@@ -86,8 +86,8 @@ pub enum Why {
     UnknownOutcome,
     /// E18: more profiles than a table may have; at the count, or the closing brace of the labels.
     TooManyProfiles,
-    /// E19: memory ran out, and there was nothing else to refuse; at the token that was read, or
-    /// the end.
+    /// E19: memory ran out; at the token that was read, or the end. Up to there, there was nothing
+    /// else to refuse.
     Memory,
 }
 

@@ -42,7 +42,7 @@ pub fn list_efg<'a>(alloc: Global, input: &'a [u8]) -> Result<ListedGame<'a>, Fa
 /// A file is refused at the first token that cannot continue any consistent extensive file, or at
 /// the end if more is due. Spans are in bytes of the input, from 0. The code is the lowest that
 /// applies, as `gf_token::Why` describes them; E1, E16 and E18 never come. E19 is returned if
-/// memory is refused, and only if there is nothing else to refuse.
+/// memory is refused, and only where there is nothing else to refuse up to its place.
 pub fn read_efg<'a>(alloc: Global, input: &'a [u8]) -> Result<Game<'a>, Fault>
     ensures spelled { IfOk result (λ g. SpellsGame input.entry.now g) }
     ensures only { (g : game) → SpellsGame input.entry.now g → IsReadAs result g }
