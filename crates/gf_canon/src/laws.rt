@@ -76,7 +76,8 @@ pub fn headline()
         → IsRefusedWith bytes (record { span = span; why = why }) }
 {}
 
-/// Tokens that can be spelled begin some file of either format exactly if they begin one that some bytes spell.
+/// Tokens that can be spelled begin some file of either format exactly
+/// if they begin one that some bytes spell.
 pub fn begins_in_bytes()
     ensures { (tokens : List Token) → AllByRecursion IsSpelled tokens
         → Begins IsInEitherFormat tokens ↔ BeginsInBytes IsInEitherFormat tokens }
