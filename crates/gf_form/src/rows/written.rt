@@ -100,8 +100,9 @@ impl<'g, 'a> Written<'g, 'a> {
         }
         let mut nodes = Nodes::new(self.alloc, asked.game)?;
         let choices = Choices::OfProfile(profile, asked.digits);
+        let (game, profiles) = (asked.game, asked.numbers.len());
         let spare = &mut self.spare_rows;
-        nodes.find_still(self.alloc, asked.game, asked.payoffs, choices, spare)?;
+        nodes.find_still(self.alloc, game, asked.payoffs, choices, profiles, spare)?;
         Ok(nodes)
     }
 

@@ -5,7 +5,7 @@ ghost use Rattle.std.specs.Prelude.{◌≡◌, ◌<◌, ℕ, IfOk, IfSome, IsTru
 ghost use Rattle.std.specs.Prelude.{length};
 ghost use Rattle.gf_tree.specs.Game.{Game};
 ghost use Rattle.gf_form.specs.inner.values.ChoicesGiven.{AreChoices};
-ghost use Rattle.gf_form.specs.inner.values.NodeLists.{AreNodesOf};
+ghost use Rattle.gf_form.specs.inner.values.NodeLists.{AreNodesOf, tree_at};
 ghost use Rattle.gf_form.specs.inner.values.PaidRows.{rows_of};
 ghost use Rattle.gf_form.specs.inner.values.Rows.{ArePaid};
 ghost use Rattle.gf_form.specs.inner.values.Still.{IsStill, IsStillRow};
@@ -79,37 +79,36 @@ fn no_rows(alloc: Global, count: usize) -> Result<Vec<Option<Vec<Fraction>>>, Al
 }
 
 impl<'g, 'a> Nodes<'g, 'a> {
-    /// Drops the rows of a node's children, and returns how many there were.
-    fn drop_below(&mut self, node: usize) -> usize
+    /// Keeps the values of a node in place of those of its children.
+    fn keep(&mut self, node: usize, row: Vec<Fraction>)
         requires nodes { (g : Game) × AreNodesOf g self.old }
         requires there { node < length self.old.branches.items }
         requires rows { length self.old.still.items ≡ length self.old.branches.items }
         ensures branches { self.new.branches ≡ self.old.branches }
         ensures count { length self.new.still.items ≡ length self.old.still.items }
-        ensures nodes { (g : Game) → AreNodesOf g self.old → AreNodesOf g self.new }
+        ensures nodes { (g : Game) → AreNodesOf g self.old
+            → IsStillRow g (tree_at g self.old node) row.items → AreNodesOf g self.new }
     {
-        let mut dropped = 0;
         for before in 0..self.branches[node].children() {
             if let Some(child) = self.child(node, before) {
-                if self.still[child].is_some() {
-                    self.still[child] = None;
-                    dropped += 1;
-                }
+                self.still[child] = None;
             }
         }
-        dropped
+        self.still[node] = Some(row);
     }
 
     /// Works out the values of subtrees in which nobody moves. Children stand behind their parents,
-    /// so they come first, and a walk from a parent goes no further than to them. Only the topmost
-    /// rows are kept, and no more than some four numbers for each node, since there can be as many
-    /// players as nodes.
+    /// so they come first, and a walk from a parent goes no further than to them.
+    ///
+    /// There can be as many players as nodes. So only the last nodes are looked at: as many as
+    /// there are profiles, and as many more as take eight numbers for each node of the game.
     pub(crate) fn find_still(
         &mut self,
         alloc: Global,
         game: &'g Game<'a>,
         payoffs: &Payoffs<'g>,
         choices: Choices<'_>,
+        profiles: usize,
         spare: &mut Vec<Vec<Fraction>>,
     ) -> Result<(), AllocError>
         requires choices { AreChoices game.now choices }
@@ -123,21 +122,16 @@ impl<'g, 'a> Nodes<'g, 'a> {
         }
         let count = self.branches.len();
         self.still = no_rows(alloc, count)?;
-        let mut room = (count / players).saturating_add(1).saturating_mul(4);
-        for node in (0..count).rev() {
+        let most = (count / players).saturating_mul(8).saturating_add(profiles);
+        for node in (count.saturating_sub(most)..count).rev() {
             let walk = Walk {
                 game,
                 payoffs,
                 nodes: self,
                 choices,
             };
-            let Some(row) = walk.still_values(alloc, node, spare)? else {
-                continue;
-            };
-            room = room.saturating_add(self.drop_below(node));
-            if room > 0 {
-                room -= 1;
-                self.still[node] = Some(row);
+            if let Some(row) = walk.still_values(alloc, node, spare)? {
+                self.keep(node, row);
             }
         }
         Ok(())

@@ -1,16 +1,11 @@
 -- Subtrees whose values no choice changes: leaves, those whose values are known, and those at nodes
 -- of chance with such children alone.
 use Rattle.gf_form.proofs.Common
-use Common.{get_or-set_other, get_or-set_at, chance_value, child_trees, AreNodesOf, chances_at}
-use Common.{zero_ratio, payoff_at, root_node, slice_get, cases_lt, set_past, times_of, trees_of}
-use Common.{plus_of, tree_at, Global, Option, SetKey, Ratio, arith, value, Game, List, Node, None}
-use Common.{Some, Tree, refl, Vec, inl, inr, set, suc, sym, ◌+◌, ◌<◌, ◌∙◌, ◌∷◌, ◌≡◌, [], ap, ℕ}
-use Rattle.std.specs.Prelude.{IfSome}
+use Common.{chance_value, child_trees, chances_at, zero_ratio, payoff_at, root_node, slice_get}
+use Common.{cases_lt, times_of, trees_of, plus_of, Option, SetKey, Ratio, arith, value, Game, List}
+use Common.{Node, None, Some, Tree, refl, inl, inr, suc, sym, ◌+◌, ◌<◌, ◌∙◌, ◌∷◌, ◌≡◌, [], ap, ℕ}
 use Rattle.gf_form.proofs.lemmas.values.Walks.{value_by_chance, value_of_leaf}
-use Rattle.gf_form.specs.declared.values.nodes.Nodes.{Nodes}
 use Rattle.gf_form.specs.inner.values.Still.{IsStill, IsStillRow}
-
--- ---- whose values no choice changes
 
 pub still_leaf : (g : Game) (t : Tree Node) → (root_node t).set ≡ None → IsStill g t
 still_leaf g t is choices others k = grind (arith, value_of_leaf)
@@ -53,19 +48,3 @@ next_still g ts n t there still before k child less is =
           let same : k ≡ n = omega arith in
           let e : t ≡ child = cc in rw e at still
     ]
-
--- ---- rows in the list of nodes
-
--- the same nodes with one row more, or one less
-pub with_row : (g : Game) (ns : Nodes) (rows : Vec (Option (Vec Ratio Global)) Global) (node : ℕ)
-    (row : Option (Vec Ratio Global)) → rows.items ≡ set ns.still.items node row
-    → IfSome row (λ row. IsStillRow g (tree_at g ns node) row.items) → AreNodesOf g ns
-    → AreNodesOf g (record { branches = ns.branches; firsts = ns.firsts; still = rows })
-with_row g ns rows node row is known are = record {
-  games = are.games;
-  root = are.root;
-  one_each = are.one_each;
-  children = are.children;
-  still = λ at.
-      grind (arith, is, known, are.still, get_or-set_at, get_or-set_other, set_past, cases_lt);
-}
