@@ -188,12 +188,13 @@ def too_much(tree):
     tree.end(98, 1)
 
 
-def deep_payoff(sets):
-    """A payoff below so many tosses that no common denominator of the numbers on its way fits."""
+def deep_payoff(sets, tosses):
+    """A payoff below so many tosses that no common denominator of the numbers on its way fits; below more of
+    them, not even what it adds to a row is known to fit."""
     tree = Tree(1)
     tree.toss(1, ["1/2", "1/2"])
     paid_sets(tree, sets)
-    for _ in range(100):
+    for _ in range(tosses):
         tree.toss(1)
         tree.end()
     tree.end(99, 2**40)
@@ -403,7 +404,8 @@ SHAPES = {
     ),
     "overflow at the last profile": (partial(overflow_at_the_last, 20), MOST_ROWS),
     "overflow at half of them": (partial(overflow_at_half, 20), MOST_ROWS),
-    "a deep payoff": (partial(deep_payoff, 14), partial(side_by_side, 14)),
+    "a deep payoff": (partial(deep_payoff, 14, 100), partial(side_by_side, 14)),
+    "a deeper payoff": (partial(deep_payoff, 18, 139), partial(side_by_side, 18)),
     "the largest payoffs of two": (partial(largest_payoffs_of_two, 14), partial(side_by_side, 14)),
     "a move beside opposites": (
         partial(move_beside_opposites, 2**16, LARGEST),
