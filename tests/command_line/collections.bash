@@ -436,10 +436,11 @@ END
 }
 
 # GNU parallel gives files to several processes, and to two machines, which are this one by two names. If
-# there is none, or no server for ssh, this is not run.
+# there is none, both are not run; if there is no server for ssh, the second is not.
 check_parallel() {
     if ! command -v parallel >/dev/null; then
-        echo "NOT RUN docs/COLLECTIONS.md: there is no parallel"
+        echo "NOT RUN hash by parallel: there is no parallel"
+        echo "NOT RUN hash by parallel on two machines: there is no parallel"
         return
     fi
     run hash "$root/examples"
@@ -447,7 +448,7 @@ check_parallel() {
     echo "$root/examples/refused/three-doors.efg: E13 at 94..95" >"$scratch/expected"
     hash_by_parallel "hash by parallel"
     if [[ ! -x /usr/sbin/sshd ]]; then
-        echo "NOT RUN docs/COLLECTIONS.md: there is no sshd"
+        echo "NOT RUN hash by parallel on two machines: there is no sshd"
         return
     fi
     start_server
