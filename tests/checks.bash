@@ -37,20 +37,33 @@ count() { # NAME COMMAND..
     fi
 }
 
-# What a test cannot do without, by name.
-missing=0
-need() { # WHAT COMMAND..
-    local what=$1
-    shift
-    if ! "$@" > /dev/null 2>&1; then
-        echo "$0 needs $what"
-        missing=$((missing + 1))
+# Whether a tool is here. If it is not, a line says what is not run, and the gate counts that as skipped.
+have() { # CHECKS TOOL COMMAND..
+    if ! "${@:3}" > /dev/null 2>&1; then
+        echo "NOT RUN $1: there is no $2"
+        return 1
     fi
 }
 
+# The same for a tool that a whole test cannot do without.
+missing=0
+need() { # TEST TOOL COMMAND..
+    have "$@" || missing=$((missing + 1))
+}
+
+# Ends a test for which tools are missing. What could not be built without them has not failed.
 stop_if_missing() { # TEST
     if ((missing > 0)); then
-        echo "$1: 0 passed, $missing failed"
+        echo "$1: 0 passed, 0 failed"
+        exit 0
+    fi
+}
+
+# What the build makes has to be there: a test without it has failed.
+need_built() { # TEST WHAT FILE
+    if [[ ! -e $3 ]]; then
+        echo "FAILED $1: there is no $2"
+        echo "$1: 0 passed, 1 failed"
         exit 1
     fi
 }

@@ -271,20 +271,20 @@ check_dash() {
 }
 
 # Runs the program with standard error at a terminal, and standard output there or in a pipe. The first
-# file is a pipe whose text comes late.
-run_at_terminal() { # OUTPUT WORD..
+# file is a pipe, which gets the text of another file, but late.
+run_at_terminal() { # OUTPUT TEXT-FILE WORD..
     mkfifo "$scratch/late.efg"
-    python3 - "$scratch" "$1" "$program" "${@:2}" <<'END'
+    python3 - "$scratch" "$1" "$2" "$program" "${@:3}" <<'END'
 import os, pty, signal, subprocess, sys, time
 signal.alarm(60)
-scratch, to, *words = sys.argv[1:]
+scratch, to, text, *words = sys.argv[1:]
 ours, theirs = pty.openpty()
 output = theirs if to == "there" else subprocess.PIPE
 child = subprocess.Popen(words, stdin=subprocess.DEVNULL, stdout=output, stderr=theirs)
 os.close(theirs)
 with open(scratch + "/late.efg", "wb") as late:
-    time.sleep(0.5)
-    late.write(open(scratch + "/five.efg", "rb").read())
+    time.sleep(0.3)
+    late.write(open(text, "rb").read())
 output = child.stdout.read() if child.stdout else b""
 told = b""
 try:
@@ -312,28 +312,57 @@ check_progress() {
         hash_of "$scratch/five.efg" "$scratch/late.efg"
         hash_of "$scratch/five.efg" "$scratch/five.efg"
     } >"$scratch/lines"
-    run_at_terminal piped hash "${files[@]}"
+    run_at_terminal piped "$scratch/five.efg" hash "${files[@]}"
     drop_later_counts
     printf '%s1 of 3 files%s%s: E4 at 26..29\n%s' "$erase" "$erase" "$scratch/refused.nfg" "$erase" >"$scratch/expected"
     judge "progress at a terminal" "$scratch/lines" "$scratch/expected" 2
-    run_at_terminal piped hash --quiet "${files[@]}"
+    run_at_terminal piped "$scratch/five.efg" hash --quiet "${files[@]}"
     echo "$scratch/refused.nfg: E4 at 26..29" >"$scratch/expected"
     judge "progress with --quiet" "$scratch/lines" "$scratch/expected" 2
-    run_at_terminal there hash "${files[0]}" "${files[2]}"
+    run_at_terminal there "$scratch/five.efg" hash "${files[0]}" "${files[2]}"
     drop_later_counts
     {
         printf '%s' "$erase" && head -n 1 "$scratch/lines"
         printf '%s1 of 2 files%s' "$erase" "$erase" && tail -n 1 "$scratch/lines" && printf '%s' "$erase"
     } >"$scratch/expected"
     judge "progress at a terminal that has the output" "$nothing" "$scratch/expected" 0
-    run_at_terminal piped duplicates "${files[@]}"
+    run_at_terminal piped "$scratch/five.efg" duplicates "${files[@]}"
     drop_later_counts
     printf '%s\n' "$scratch/late.efg" "$scratch/five.efg" >"$scratch/lines"
     printf '%s1 of 3 files%s%s: E4 at 26..29\n%s' "$erase" "$erase" "$scratch/refused.nfg" "$erase" >"$scratch/expected"
     judge "progress of duplicates" "$scratch/lines" "$scratch/expected" 2
-    run_at_terminal piped duplicates --quiet "${files[@]}"
+    run_at_terminal piped "$scratch/five.efg" duplicates --quiet "${files[@]}"
     echo "$scratch/refused.nfg: E4 at 26..29" >"$scratch/expected"
     judge "progress of duplicates with --quiet" "$scratch/lines" "$scratch/expected" 2
+    check_progress_of_folder
+}
+
+# `check` of a folder, `canon --check` and `canon --write` tell a terminal the same. The text that comes late
+# is canonical: a pipe cannot be replaced.
+check_progress_of_folder() {
+    local folder=$scratch/shown erase=$'\r\e[K' command quiet
+    mkdir "$folder"
+    launch canon <"$scratch/five.efg" >"$scratch/text.efg"
+    for command in check "canon --check" "canon --write"; do
+        for quiet in "" --quiet; do
+            cp "$scratch/five.efg" "$scratch/refused.nfg" "$folder"
+            case $command in
+            check) printf '%s: tree\n' "$scratch/late.efg" "$folder/five.efg" ;;
+            *--check) echo "$folder/five.efg" ;;
+            esac >"$scratch/lines"
+            {
+                [[ $quiet ]] || printf '%s1 of 3 files%s' "$erase" "$erase"
+                echo "$folder/refused.nfg: E4 at 26..29"
+                [[ $quiet ]] || printf '%s' "$erase"
+            } >"$scratch/expected"
+            # (no option is no word)
+            # shellcheck disable=SC2086
+            run_at_terminal piped "$scratch/text.efg" $command $quiet "$scratch/late.efg" "$folder"
+            [[ $quiet ]] || drop_later_counts
+            judge "progress of $command ${quiet:-without --quiet}" "$scratch/lines" "$scratch/expected" 2
+        done
+    done
+    rm -r "$folder" "$scratch/text.efg"
 }
 
 # What is erased takes no byte from a line beside it, however long the line is.
@@ -345,7 +374,7 @@ check_lines_at_terminal() {
         cp "$scratch/five.efg" "$scratch/${names[-1]}"
     done
     pushd "$scratch" >/dev/null || return
-    run_at_terminal there hash "${names[@]}"
+    run_at_terminal there "$scratch/five.efg" hash "${names[@]}"
     popd >/dev/null || return
     hash=$(hash_of "$scratch/five.efg" "")
     for name in "${names[@]}"; do
@@ -436,10 +465,11 @@ END
 }
 
 # GNU parallel gives files to several processes, and to two machines, which are this one by two names. If
-# there is none, or no server for ssh, this is not run.
+# there is none, both are not run; if there is no server for ssh, the second is not.
 check_parallel() {
     if ! command -v parallel >/dev/null; then
-        echo "NOT RUN docs/COLLECTIONS.md: there is no parallel"
+        echo "NOT RUN hash by parallel: there is no parallel"
+        echo "NOT RUN hash by parallel on two machines: there is no parallel"
         return
     fi
     run hash "$root/examples"
@@ -447,7 +477,7 @@ check_parallel() {
     echo "$root/examples/refused/three-doors.efg: E13 at 94..95" >"$scratch/expected"
     hash_by_parallel "hash by parallel"
     if [[ ! -x /usr/sbin/sshd ]]; then
-        echo "NOT RUN docs/COLLECTIONS.md: there is no sshd"
+        echo "NOT RUN hash by parallel on two machines: there is no sshd"
         return
     fi
     start_server

@@ -82,17 +82,18 @@ check_hooks() {
     judge "the hook gamefile-write: the file" "$accepted.out" "$nothing" 2
 }
 
-# Counts what another script passes and fails, which its last line says.
+# Counts what another script passes and fails, which its last line says. It has to count something.
 check_by() { # SCRIPT WORD..
     local summary ended=0
     summary=$("$root/tests/$1" "${@:2}") || ended=$?
     printf '%s\n' "$summary" | grep -v "^$1: "
-    if [[ $summary =~ $1:\ ([0-9]+)\ passed,\ ([0-9]+)\ failed$ ]]; then
+    if [[ $summary =~ $1:\ ([0-9]+)\ passed,\ ([0-9]+)\ failed$ ]] &&
+        ((BASH_REMATCH[1] + BASH_REMATCH[2] > 0)); then
         passed=$((passed + BASH_REMATCH[1]))
         failed=$((failed + BASH_REMATCH[2]))
         ((ended == 0 || BASH_REMATCH[2] > 0)) || fail "tests/$1: its status is $ended"
     else
-        fail "tests/$1: it has no last line"
+        fail "tests/$1: its last line counts nothing"
     fi
 }
 

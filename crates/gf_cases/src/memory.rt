@@ -33,6 +33,7 @@ pub enum Came {
 pub enum Subject {
     WriteFraction,
     WriteLabel,
+    WriteAnyBytes,
     MakeTable,
     WriteTable,
     ReadTable,
@@ -54,9 +55,10 @@ pub enum Subject {
 }
 
 /// The calls with their names.
-pub static CALLS: [(&str, Subject); 25] = [
+pub static CALLS: [(&str, Subject); 26] = [
     ("Fraction::write", Subject::WriteFraction),
     ("write_label", Subject::WriteLabel),
+    ("write_label of any bytes", Subject::WriteAnyBytes),
     ("Table::new", Subject::MakeTable),
     ("write_nfg", Subject::WriteTable),
     ("read_nfg", Subject::ReadTable),
@@ -85,7 +87,8 @@ pub static CALLS: [(&str, Subject); 25] = [
 fn make(alloc: Global, subject: Subject) -> Came {
     match subject {
         Subject::WriteFraction => parts::write_fraction(alloc),
-        Subject::WriteLabel => parts::write_text(alloc),
+        Subject::WriteLabel => parts::write_quoted(alloc),
+        Subject::WriteAnyBytes => parts::write_any_bytes(alloc),
         Subject::MakeTable => parts::make_table(alloc),
         Subject::WriteTable => parts::write_table(alloc),
         Subject::ReadTable => texts::read_table(alloc),

@@ -128,8 +128,9 @@ fn is_written_as(alloc: Global, made: Result<Game<'_>, AllocError>, text: &[u8])
     made.is_ok_and(|game| write_efg(&game, &mut out).is_ok()) && out.as_slice() == text
 }
 
-fn numbers_by_first_use(alloc: Global) -> bool {
-    with_tree(alloc, FIVE_BY_OTHER_NUMBERS, |game| {
+/// Whether the tree of a file, numbered by first use, is written as `FIVE_TEXT`.
+fn numbers_by_first_use(alloc: Global, file: &[u8]) -> bool {
+    with_tree(alloc, file, |game| {
         is_written_as(alloc, renumber(alloc, game), FIVE_TEXT)
     }) == Ok(true)
 }
@@ -193,7 +194,9 @@ pub fn trees(alloc: Global) -> Cases {
     cases.add("a tree with bonuses", read == Ok(()));
     let read = with_tree(alloc, FIVE, |game| holdings(game, &mut cases));
     cases.add("a tree", read == Ok(()));
-    cases.add("numbers by first use", numbers_by_first_use(alloc));
+    for file in [FIVE, FIVE_BY_OTHER_NUMBERS] {
+        cases.add("numbers by first use", numbers_by_first_use(alloc, file));
+    }
     cases.add("numbers that are given", takes_numbers(alloc));
     let found = is_between(alloc, FIVE, FIVE_BY_OTHER_NUMBERS, |found| match found {
         Some(new) => {

@@ -2,8 +2,16 @@
 
 use crate::cases::Cases;
 use gf_canon::Names;
-use gf_words::{Input, Job, Paths, WordsFault, parse_words};
+use gf_words::{Input, Job, LineEnd, Paths, WordsFault, parse_words};
 use std::alloc::Global;
+
+/// What names several files: nothing, words, or a list, in which names end with NUL or not.
+#[derive(Clone, Copy)]
+enum Files {
+    Standard,
+    Named(&'static [&'static str]),
+    List(Option<&'static str>, bool),
+}
 
 /// What words ask for. A file that is not named is standard input.
 #[derive(Clone, Copy)]
@@ -15,11 +23,14 @@ enum Asked {
     CheckAll(&'static [&'static str]),
     Table(Option<&'static str>, bool),
     Same(&'static str, &'static str, bool, Names),
+    /// The last part of this and the next says whether lines end with NUL.
+    Hash(Files, Names, bool),
+    Duplicates(Files, Names, bool),
     Help,
     Usage,
 }
 
-static WORDS: [(&[&str], Asked); 28] = [
+static WORDS: [(&[&str], Asked); 52] = [
     (&[], Asked::Canon(None, Names::Kept)),
     (&["canon"], Asked::Canon(None, Names::Kept)),
     (
@@ -62,6 +73,88 @@ static WORDS: [(&[&str], Asked); 28] = [
     (&["same", "--map", "--no-names", "a", "b"], Asked::Usage),
     (&["same", "a"], Asked::Usage),
     (&["same", "a", "b", "c"], Asked::Usage),
+    (&["hash"], Asked::Hash(Files::Standard, Names::Kept, false)),
+    (
+        &["hash", "a", "b"],
+        Asked::Hash(Files::Named(&["a", "b"]), Names::Kept, false),
+    ),
+    (
+        &["hash", "--no-names", "a"],
+        Asked::Hash(Files::Named(&["a"]), Names::Aside, false),
+    ),
+    (
+        &["hash", "--zero", "a"],
+        Asked::Hash(Files::Named(&["a"]), Names::Kept, true),
+    ),
+    (
+        &["hash", "-z", "a"],
+        Asked::Hash(Files::Named(&["a"]), Names::Kept, true),
+    ),
+    (
+        &["hash", "--explain", "--quiet", "a"],
+        Asked::Hash(Files::Named(&["a"]), Names::Kept, false),
+    ),
+    (
+        &["hash", "--files-from", "a"],
+        Asked::Hash(Files::List(Some("a"), false), Names::Kept, false),
+    ),
+    (
+        &["hash", "--files-from", "-", "--null"],
+        Asked::Hash(Files::List(None, true), Names::Kept, false),
+    ),
+    (
+        &["hash", "-0", "--files-from", "a", "--zero", "--no-names"],
+        Asked::Hash(Files::List(Some("a"), true), Names::Aside, true),
+    ),
+    (&["hash", "--null", "a"], Asked::Usage),
+    (&["hash", "--files-from", "a", "b"], Asked::Usage),
+    (&["hash", "--map", "a"], Asked::Usage),
+    (
+        &["duplicates"],
+        Asked::Duplicates(Files::Standard, Names::Kept, false),
+    ),
+    (
+        &["duplicates", "a", "b"],
+        Asked::Duplicates(Files::Named(&["a", "b"]), Names::Kept, false),
+    ),
+    (
+        &["duplicates", "--no-names", "a"],
+        Asked::Duplicates(Files::Named(&["a"]), Names::Aside, false),
+    ),
+    (
+        &["duplicates", "--zero", "a"],
+        Asked::Duplicates(Files::Named(&["a"]), Names::Kept, true),
+    ),
+    (
+        &["duplicates", "-z", "a"],
+        Asked::Duplicates(Files::Named(&["a"]), Names::Kept, true),
+    ),
+    (
+        &["duplicates", "--explain", "--quiet", "a"],
+        Asked::Duplicates(Files::Named(&["a"]), Names::Kept, false),
+    ),
+    (
+        &["duplicates", "--files-from", "a"],
+        Asked::Duplicates(Files::List(Some("a"), false), Names::Kept, false),
+    ),
+    (
+        &["duplicates", "--files-from", "-", "--null"],
+        Asked::Duplicates(Files::List(None, true), Names::Kept, false),
+    ),
+    (
+        &[
+            "duplicates",
+            "-0",
+            "--files-from",
+            "a",
+            "--zero",
+            "--no-names",
+        ],
+        Asked::Duplicates(Files::List(Some("a"), true), Names::Aside, true),
+    ),
+    (&["duplicates", "--null", "a"], Asked::Usage),
+    (&["duplicates", "--files-from", "a", "b"], Asked::Usage),
+    (&["duplicates", "--map", "a"], Asked::Usage),
     (&["canon", "a", "b"], Asked::Usage),
     (&["tree"], Asked::Usage),
     (&["a.efg"], Asked::Usage),
@@ -85,6 +178,21 @@ fn are_named(paths: &Paths, names: &[&str]) -> bool {
     }
 }
 
+fn is_null(end: LineEnd) -> bool {
+    matches!(end, LineEnd::Null)
+}
+
+fn are_files(paths: &Paths, files: Files) -> bool {
+    match (paths, files) {
+        (Paths::Standard, Files::Standard) => true,
+        (_, Files::Named(names)) => are_named(paths, names),
+        (Paths::List { list, end }, Files::List(name, null)) => {
+            is_input(list, name) && is_null(*end) == null
+        }
+        _ => false,
+    }
+}
+
 fn is_job(job: &Job, asked: Asked) -> bool {
     match (job, asked) {
         (Job::Canon { input, names }, Asked::Canon(name, other)) => {
@@ -103,6 +211,12 @@ fn is_job(job: &Job, asked: Asked) -> bool {
         }
         (Job::Same { a, b, map, names }, Asked::Same(first, second, with_map, other)) => {
             a.as_str() == first && b.as_str() == second && *map == with_map && *names == other
+        }
+        (Job::Hash { files, names, end }, Asked::Hash(named, other, null)) => {
+            are_files(files, named) && *names == other && is_null(*end) == null
+        }
+        (Job::Duplicates { files, names, end }, Asked::Duplicates(named, other, null)) => {
+            are_files(files, named) && *names == other && is_null(*end) == null
         }
         _ => false,
     }

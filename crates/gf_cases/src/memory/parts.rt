@@ -38,15 +38,21 @@ pub fn write_fraction(alloc: Global) -> Came {
     }
 }
 
-pub fn write_text(alloc: Global) -> Came {
-    match Label::new(b"say \\\"hi\\\" \\a") {
-        Some(label) => came_of(
-            alloc,
-            b"\"say \\\"hi\\\" \\a\"",
-            |out| write_label(label, out),
-        ),
+fn write_title(alloc: Global, title: &[u8], text: &[u8]) -> Came {
+    match Label::new(title) {
+        Some(label) => came_of(alloc, text, |out| write_label(label, out)),
         None => Came::NotMade,
     }
+}
+
+/// A title with quotation marks and a backslash.
+pub fn write_quoted(alloc: Global) -> Came {
+    write_title(alloc, b"say \\\"hi\\\" \\a", b"\"say \\\"hi\\\" \\a\"")
+}
+
+/// A title with a line feed, and with a byte that no text in UTF-8 has.
+pub fn write_any_bytes(alloc: Global) -> Came {
+    write_title(alloc, b"a\n\xffb", b"\"a\n\xffb\"")
 }
 
 pub fn write_table(alloc: Global) -> Came {
