@@ -1,17 +1,12 @@
 -- Lines and names, one after another.
 use Rattle.std.proofs.Common.{◌≡◌, ◌∷◌, ◌++◌, ◌<◌, [], IfSome, List, None, Option, Some, length, ℕ}
-use Rattle.std.proofs.Common.{Ok, ap, arith, inl, refl, ◌∙◌}
+use Rattle.std.proofs.Common.{ap, arith, refl, ◌∙◌}
 use Rattle.std.proofs.lemmas.List.{append_assoc}
 use Rattle.std.proofs.lemmas.Option.{same_Some}
 use Rattle.std.specs.Io.BufRead.{DropsThrough, drop_through, first_piece, strip_last}
 use Rattle.std.specs.List.{flat_map}
 use Rattle.gf_jobs.specs.Listed.{end_byte, lines_of, name_in, names_in}
-use Rattle.gf_jobs.specs.Opening.{Opener}
-use Rattle.gf_jobs.specs.Performs.{AreNames, IsUnlisted}
-use Rattle.gf_run.specs.Streams.{Stream}
-use Rattle.gf_run.specs.declared.fault.RunFault.{RunFault}
 use Rattle.gf_words.specs.declared.job.LineEnd.{LineEnd}
-use Rattle.gf_words.specs.declared.job.Paths.{Paths}
 
 -- a byte before others that are not all
 strip_cons : (byte x y : ℕ) (ys : List ℕ)
@@ -52,12 +47,3 @@ one_more end (Some bytes) (Some xs) next byte still old names after line same fi
       drops,
       grind (arith, append_assoc, same_Some, by_first, first.1, ends, is, all, more),
     )
-
--- where names are known, memory may still run out
-pub still_unlisted : {I S : Type 0} (opener : Opener I S) (reader : Stream S) (paths : Paths)
-    (names : List (List ℕ)) (i i' : I) → AreNames opener reader paths names i i'
-    → IsUnlisted opener paths RunFault.Memory i i'
-still_unlisted opener reader Paths.Standard names i i' (are, same) = (refl, same)
-still_unlisted opener reader (Paths.Named words) names i i' (are, same) = (refl, same)
-still_unlisted opener reader (Paths.List list end) names i i' (s, opens, known) =
-    (Ok s, opens, inl refl)

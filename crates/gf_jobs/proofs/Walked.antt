@@ -3,6 +3,7 @@ use Rattle.std.proofs.Common.{◌≡◌, ◌≢◌, ◌∷◌, ◌++◌, ◌+◌
 use Rattle.std.proofs.Common.{append_assoc, arith, drop, false, get_or, if◌then◌else◌, length, map}
 use Rattle.std.proofs.Common.{refl, reverse, take, true, ℕ}
 use Rattle.std.proofs.Math.Bool.{or-false, or_assoc}
+use Rattle.std.proofs.lemmas.Grind.{flat_map-append}
 use Rattle.std.proofs.lemmas.List.{drop_more, map_more, reverse-append}
 use Rattle.std.specs.Prelude.{codes, nat_eq}
 use Rattle.std.specs.List.{flat_map, list_any, starts_with}
@@ -13,7 +14,9 @@ use Rattle.gf_jobs.specs.LedTo.AreLedTo.{one_more}
 use Rattle.gf_jobs.specs.LedTo.LeadsTo.{is_path}
 use Rattle.gf_jobs.specs.LedTo.AreMet.{next, none}
 use Rattle.gf_jobs.specs.LedTo.IsMet.{first_of}
+use Rattle.gf_jobs.specs.Lines.{after_name}
 use Rattle.gf_jobs.specs.Opening.{Opener}
+use Rattle.gf_jobs.specs.Performs.{without_games}
 use Rattle.gf_jobs.specs.declared.collections.file.CollectionFile.{CollectionFile}
 use Rattle.gf_jobs.specs.declared.collections.kept_files.Fate.{Fate}
 use Rattle.gf_jobs.specs.declared.collections.kept_files.Repeats.{Repeats}
@@ -123,3 +126,10 @@ pub led_on : {I S P : Type 0} (opener : Opener I S) (i : I) (repeats : Repeats) 
 led_on opener i repeats name_of paths at path seen now files own new without some within is new_is led
     one = rw (map_more name_of paths at path within, ← is, new_is)
     (one_more _ _ _ _ _ _ _ _ led one)
+
+-- what is said of names without games, after one more of them
+pub said_more : (names : List (List ℕ)) (name said line new : List ℕ) → said ≡ without_games names
+    → line ≡ after_name name (codes "no game files\n") → new ≡ said ++ line
+    → new ≡ without_games (names ++ name ∷ [])
+said_more names name said line new said_is line_is more =
+    grind (arith, flat_map-append, append-nil, said_is, line_is, more)

@@ -1,14 +1,14 @@
 //! The files of a collection: those that words or a list of names lead to.
 
 ghost use Rattle.std.specs.Prelude.{◌≡◌, IfErr, IfOk, List, map, ℕ};
-ghost use Rattle.std.specs.String.{string_bytes};
 ghost use Rattle.gf_jobs.specs.LedTo.{AreFilesOf};
-ghost use Rattle.gf_jobs.specs.Performs.{AreNames, IsUnlisted};
+ghost use Rattle.gf_jobs.specs.Performs.{AreNames, IsUnlisted, without_games};
 
 use crate::collections::file::CollectionFile;
 use crate::collections::folders::push_files;
 use crate::collections::kept_files::{KeptFiles, Repeats};
 use crate::explain::{Cause, Failed, unread};
+use crate::jobs::ending::after_name;
 use crate::opening::inputs::{Inputs, open_input};
 use crate::opening::list::push_names;
 use gf_words::{Input, LineEnd, Paths};
@@ -16,11 +16,12 @@ use std::alloc::{AllocError, Global};
 use std::convert::AsSlice;
 use std::io::ErrorKind;
 
-/// The files of a collection, and the folders that were named and have no game files.
+/// The files of a collection.
 #[derive(Drop)]
 pub struct FoundFiles {
     pub files: Vec<CollectionFile>,
-    pub without_games: Vec<String>,
+    /// What is said of names that have no game files: a line for each.
+    pub without_games: Vec<u8>,
 }
 
 /// The names in a list, whose lines have this end.
@@ -54,8 +55,9 @@ fn files_led_to<I: Inputs, P: AsSlice<u8>>(
     paths: &[P],
     repeats: Repeats,
 ) -> Result<FoundFiles, AllocError>
-    ensures { IfOk result (λ found. AreFilesOf I.opener inputs.now repeats (map P.items paths.now)
-        found.files.items (map string_bytes found.without_games.items)) }
+    ensures { IfOk result (λ found. (without : List (List ℕ)) × AreFilesOf I.opener inputs.now repeats
+        (map P.items paths.now) found.files.items without
+        × (found.without_games.items ≡ without_games without)) }
 {
     let mut kept = KeptFiles::new(alloc, repeats);
     let mut without_games = Vec::new(alloc);
@@ -64,7 +66,9 @@ fn files_led_to<I: Inputs, P: AsSlice<u8>>(
         if push_files(alloc, inputs, path, &mut kept)? {
             continue;
         }
-        without_games.push(String::from_utf8_lossy(alloc, path)?)?;
+        let name = String::from_utf8_lossy(alloc, path)?;
+        let line = after_name(alloc, name.as_str(), b"no game files\n")?;
+        without_games.extend_from_slice(line.as_slice())?;
     }
     Ok(FoundFiles {
         files: kept.files,
@@ -88,8 +92,9 @@ pub fn files_at<I: Inputs>(
 ) -> Result<FoundFiles, Failed>
     ensures files { IfOk result (λ found. (names : List (List ℕ))
         × AreNames I.opener I.Opened.reader paths.now names inputs.old inputs.new
-        × AreFilesOf I.opener inputs.new repeats names found.files.items
-        (map string_bytes found.without_games.items)) }
+        × (without : List (List ℕ))
+        × AreFilesOf I.opener inputs.new repeats names found.files.items without
+        × (found.without_games.items ≡ without_games without)) }
     ensures fault { IfErr result (λ failed.
         IsUnlisted I.opener paths.now failed.fault inputs.old inputs.new) }
 {

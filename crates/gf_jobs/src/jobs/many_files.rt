@@ -1,9 +1,8 @@
 //! The jobs over several files: which files these are, and which run is made for them.
 
-ghost use Rattle.std.specs.Prelude.{◌≡◌, IfOk, map};
-ghost use Rattle.std.specs.String.{string_bytes};
+ghost use Rattle.std.specs.Prelude.{◌≡◌};
 ghost use Rattle.gf_jobs.specs.Performs.{Does, IsSame, IsListReport, PerformsAll};
-ghost use Rattle.gf_jobs.specs.Performs.{repeats_of, without_games, world_of};
+ghost use Rattle.gf_jobs.specs.Performs.{repeats_of, world_of};
 
 use crate::collections::file::{CollectionFile, called};
 use crate::collections::kept_files::Repeats;
@@ -11,13 +10,13 @@ use crate::collections::line::FileLine;
 use crate::collections::paths::files_at;
 use crate::collections::progress::Progress;
 use crate::explain::Failed;
-use crate::jobs::ending::{after_name, nothing_kept, report, report_named};
+use crate::jobs::ending::{nothing_kept, report, report_named};
 use crate::jobs::session::Session;
 use crate::opening::inputs::Inputs;
 use gf_canon::Names;
 use gf_run::{LastError, RunFault, Sink, push_all};
 use gf_words::{LineEnd, Paths};
-use std::alloc::{AllocError, Global};
+use std::alloc::Global;
 
 /// What is done with the files of a collection.
 #[derive(Clone, Copy)]
@@ -63,18 +62,6 @@ fn report_unlisted<E: Sink>(
     }
 }
 
-/// What is said of folders that were named and have no game files: a line for each.
-fn without_games(alloc: Global, folders: &[String]) -> Result<Vec<u8>, AllocError>
-    ensures { IfOk result (λ text. text.items ≡ without_games (map string_bytes folders.now)) }
-{
-    let mut text = Vec::new(alloc);
-    for folder in folders {
-        let line = after_name(alloc, folder.as_str(), b"no game files\n")?;
-        text.extend_from_slice(line.as_slice())?;
-    }
-    Ok(text)
-}
-
 impl<I: Inputs, P: Progress, W: Sink + LastError, E: Sink> Session<'_, '_, '_, '_, I, P, W, E> {
     /// Does this for files, and returns the exit status.
     pub(crate) fn run_task(&mut self, files: &[CollectionFile], task: Task) -> u8
@@ -100,13 +87,10 @@ impl<I: Inputs, P: Progress, W: Sink + LastError, E: Sink> Session<'_, '_, '_, '
             task paths.now result (world_of self.old) (world_of self.new) }
     {
         match files_at(self.alloc, self.inputs, paths, task.repeats()) {
-            Ok(found) => match without_games(self.alloc, found.without_games.as_slice()) {
-                Ok(text) => {
-                    let _ = push_all(self.errors, text.as_slice());
-                    self.run_task(found.files.as_slice(), task)
-                }
-                Err(AllocError) => report(&RunFault::Memory, self.errors),
-            },
+            Ok(found) => {
+                let _ = push_all(self.errors, found.without_games.as_slice());
+                self.run_task(found.files.as_slice(), task)
+            }
             Err(failed) => report_unlisted(self.alloc, paths, &failed, self.explain, self.errors),
         }
     }
