@@ -67,8 +67,7 @@ changes s after t e = subst (ChangesBy s t) e (changes_by s.position s.content t
 
 pub taken_past : (s after : State) (t : Token) → step s t ≡ Ok after → IsWithin s
     → profile_limit < after.content.profiles → taken s t ≡ Err TooManyProfiles
-taken_past s after t e few over =
-    let past = (changes s after t e).looked_at few in grind (arith, nat_tests)
+taken_past s after t e few over = grind (arith, changes, nat_tests)
 
 pub taken_within : (s after : State) (t : Token) → step s t ≡ Ok after → IsWithin after
     → taken s t ≡ Ok after
@@ -84,8 +83,7 @@ pub read_stays : (ts : List Token) (c : Content) → any_format.run taken finish
     → (run start ts ≡ Ok c) × (c.profiles ≤ profile_limit)
 read_stays ts c e =
     let m = run_split taken finish ts [] start c (cc (append-nil ts, e)) in
-    let k = stays ts start m.0 (omega arith) m.1 in
-    grind (arith, m.2, run_whole)
+    grind (arith, stays, run_whole)
 
 -- ---- above the limit
 

@@ -122,23 +122,14 @@ pub ends : (q : Position) (c : Content) → Ends (at q c) (reached q c.profiles)
 ends p.Format c = by (Bare (codes "NFG")) (refl, (refl, (refl, tt))) refl
     (by (Bare (codes "1")) (refl, tt) refl (letter_ends c))
 ends p.Version c = by (Bare (codes "1")) (refl, tt) refl (letter_ends c)
-ends p.Letter c = letter_ends c
-ends p.Title c = title_ends c
 ends p.BeforePlayers c = by Opening tt refl (players_end c)
-ends p.InPlayers c = players_end c
 ends p.BeforeStrategies c = by Opening tt refl (first_ends (length c.players) c)
-ends (p.FirstStrategies left) c = first_ends left c
-ends (p.Counts left) c = counts_end left c
-ends (p.BeforeList left) c = lists_end left c
 ends (p.InList left zero) c = by_one c.profiles
     (by (Text []) refl refl (by Closing tt refl
     (lists_end left (with_count (with_labels c ([] ∷ [])) 1))))
 ends (p.InList left (suc n)) c = by Closing tt refl (lists_end left (with_count c (suc n)))
-ends (p.AfterStrategies left) c = body_ends left c
 ends (p.AfterComment left) c = by Opening tt refl (outcomes_ends 0 c)
-ends (p.FlatPayoffs left) c = flat_ends left c
-ends (p.InOutcomes outcomes) c = outcomes_ends outcomes c
 ends (p.OutcomeName outcomes) c = by (Text []) refl refl (braced_ends outcomes (length c.players) c)
 ends (p.BracedPayoff true outcomes left) c = by Comma tt refl (braced_ends outcomes left c)
-ends (p.BracedPayoff false outcomes left) c = braced_ends outcomes left c
-ends (p.OutcomeNumbers outcomes left) c = numbers_ends outcomes left c
+ends q c = grind (arith, letter_ends, title_ends, players_end, first_ends, counts_end, lists_end,
+    body_ends, flat_ends, outcomes_ends, braced_ends, numbers_ends)

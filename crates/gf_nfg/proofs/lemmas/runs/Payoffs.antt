@@ -131,11 +131,9 @@ pub outcomes_again : (outcomes : List (List Ratio)) (list rest : List Token) (be
     → run (at (p.InOutcomes before) c) (list ++ Closing ∷ rest)
     ≡ run (at (p.OutcomeNumbers (before + length outcomes) c.profiles)
     (with_payoffs c (joined outcomes))) rest
-outcomes_again [] list rest before c h = grind (arith, append-nil)
 outcomes_again (payoffs ∷ outcomes) list rest before c h =
-    let ends = braces_again payoffs h.3.1 (h.1 ++ Closing ∷ rest) before c h.3.3 false in
-    let more = outcomes_again outcomes h.1 rest (before + 1) (with_payoffs c payoffs) h.4 in
-    grind (arith, h.3.0, append_assoc, joined)
+    grind (arith, braces_again, append_assoc, joined, outcomes_again outcomes)
+outcomes_again [] list rest before c h = grind (arith, append-nil)
 
 -- ---- outcomes' numbers
 

@@ -52,10 +52,7 @@ outcome_body ts c r above e =
     let h = outcomes_in (length ts + 1) ts 0 (filled c [] []) r (omega arith) e in
     let none : 0 + length h.2 ≡ length h.2 = omega arith in
     let k = choices_found h.1 c.profiles (length h.2) (filled c (joined h.2) []) r (cc h.5) in
-    let some : 0 < length k.choices = omega (arith, k.count, above) in
-    let full = outcomes_full (length c.players) h.2 h.0 h.4 in
-    let size = length-joined_rows (length c.players) h.2 full in
-    grind (arith, joined, append_assoc, rows_chosen, choices_pay)
+    grind (arith, outcomes_full, length-joined_rows, joined, append_assoc, rows_chosen, choices_pay)
 
 body_found : (ts : List Token) (c r : Content) → 0 < c.profiles
     → run (at (p.AfterComment (length c.players * c.profiles)) (filled c [] [])) ts ≡ Ok r

@@ -72,8 +72,7 @@ begun_found format version letter ts r e = grind (arith, same_bytes)
 players_found : (ts : List Token) (c r : Content) → run (at p.InPlayers c) ts ≡ Ok r
     → (players : List (List ℕ)) × (rest : List Token) × (ts ≡ map Text players ++ Closing ∷ rest)
     × (run (at p.BeforeStrategies (with_players c players)) rest ≡ Ok r)
-players_found (Text label ∷ ts) c r e =
-    grind (arith, append_assoc, players_found ts (with_players c (label ∷ [])) r e)
+players_found (Text label ∷ ts) c r e = grind (arith, append_assoc, players_found ts)
 players_found (Closing ∷ ts) c r e = ([], ts, refl, rw append-nil e)
 players_found _ c r e = absurd cc
 
@@ -105,9 +104,8 @@ heading_line letter title players =
 
 players_walk : (players : List (List ℕ)) (c : Content)
     → walk (at p.InPlayers c) (map Text players) ≡ Ok (at p.InPlayers (with_players c players))
+players_walk (label ∷ players) c = grind (arith, append_assoc, players_walk players)
 players_walk [] c = rw append-nil refl
-players_walk (label ∷ players) c =
-    grind (arith, append_assoc, players_walk players (with_players c (label ∷ [])))
 
 pub heading_leads : (letter title : List ℕ) (players : List (List ℕ))
     → (letter ≡ codes "R") ⊎ (letter ≡ codes "D") → Leads (heading_line letter title players)
@@ -248,9 +246,8 @@ strategies_found _ c r e = absurd (grind arith)
 pub labels_walk : (labels : List (List ℕ)) (due n : ℕ) (c : Content)
     → walk (at (p.InList due n) c) (map Text labels)
     ≡ Ok (at (p.InList due (n + length labels)) (with_labels c labels))
+labels_walk (label ∷ labels) due n c = grind (arith, append_assoc, labels_walk labels)
 labels_walk [] due n c = grind (arith, append-nil)
-labels_walk (label ∷ labels) due n c =
-    grind (arith, append_assoc, labels_walk labels due (n + 1))
 
 group_walk : (k : Kind) (due : ℕ) (c : Content) (group : List Token) (labels : List (List ℕ))
     → IsGroup k group labels → 0 < length labels
@@ -269,11 +266,9 @@ groups_walk : (k : Kind) (strategies : StrategyLists) (inner : List Token) (c : 
     → Each (IsGroup k) inner strategies → AllSome strategies
     → walk (due_at k (length strategies) c) inner
     ≡ Ok (due_at k 0 (all_in (with_group k) c strategies))
-groups_walk k [] inner c h some = ap (walk (due_at k 0 c)) h
 groups_walk k (labels ∷ strategies) inner c h some =
-    let first = group_walk k (length strategies) c h.0 labels h.3 some.0 in
-    let more = groups_walk k strategies h.1 (with_group k c labels) h.4 some.1 in
-    grind (arith, walk_on step)
+    grind (arith, group_walk, walk_on, groups_walk k strategies h.1 (with_group k c labels) h.4)
+groups_walk k [] inner c h some = ap (walk (due_at k 0 c)) h
 
 -- the first may be of either kind
 either_first : (k : Kind) (strategies : StrategyLists) (inner rest : List Token) (c : Content)

@@ -23,9 +23,6 @@ pub lacking : (size count : ℕ) (empty : Bool) → empty ≡ (size == 0) → em
     → size ≡ count → count ≡ 0
 lacking size count empty is none same = grind arith
 
-pub some_is : (numbers : List ℕ) → 0 < length numbers → ¬ (numbers ≡ [])
-some_is numbers some e = absurd (omega (arith, some, ap length e))
-
 payoffs_told : (c : Content) → IsComplete c → c.choices ≡ []
     → joined (rows (table_of c)) ≡ c.payoffs
 payoffs_told c h none = grind (arith, rows-table_of, rows_in_turn, mul_comm)

@@ -80,8 +80,7 @@ rises-push from (end ∷ ends) whole next h more = (h.0, rises-push end ends who
 -- a piece more
 pub rises-more : {A : Type 0} (ends : List ℕ) (items more : List A) → RisesTo (length items) 0 ends
     → RisesTo (length (items ++ more)) 0 (ends ++ length (items ++ more) ∷ [])
-rises-more ends items more h =
-    let grown = length-append items more in rises-push 0 ends _ _ h (omega (arith, grown))
+rises-more ends items more h = grind (arith, length-append, rises-push)
 
 pub pieces-more : {A : Type 0} (ends : List ℕ) (items more : List A)
     → RisesTo (length items) 0 ends

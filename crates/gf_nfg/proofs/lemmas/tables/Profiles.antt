@@ -56,8 +56,7 @@ profiles_in_order counts = places_are counts ∙ ap (numbers_from 0) (length-pro
 pub place_at : (counts : List ℕ) (i : ℕ) (d : List ℕ) → i < length (profiles counts)
     → place counts (get_or (profiles counts) i d) ≡ i
 place_at counts i d h =
-    let number = get_or-numbers_from 0 (length (profiles counts)) i 0 h in
-    grind (arith, places_are counts, get_or-map)
+    grind (arith, get_or-numbers_from 0 (length (profiles counts)) i 0 h, places_are, get_or-map)
 
 -- no profile stands twice
 pub profiles_distinct : (counts : List ℕ) (i j : ℕ) (d : List ℕ) → i < length (profiles counts)

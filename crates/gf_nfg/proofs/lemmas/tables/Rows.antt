@@ -74,10 +74,6 @@ full_rows players count payoffs (k ∷ numbers) h =
 
 -- ---- rows that are kept
 
-width : (players number : ℕ) → number ≢ 0 → number * players - (number - 1) * players ≡ players
-width players zero some = absurd (some refl)
-width players (suc k) some = grind (arith, mul-suc)
-
 module _ (players count : ℕ) (payoffs zeros : List Ratio) (rs : List (List Ratio)) (number : ℕ)
     (full : AreFull players count payoffs) (view : zeros ∷ rows_of players count payoffs ≡ rs)
     (less : number < length rs) where
@@ -89,7 +85,7 @@ module _ (players count : ℕ) (payoffs zeros : List Ratio) (rs : List (List Rat
 
   pub row_there : number ≢ 0 → slice_get rs number ≡ Some
       (take (number * players - (number - 1) * players) (drop ((number - 1) * players) payoffs))
-  row_there some = grind (arith, get-rows_of, at_most, width)
+  row_there some = grind (arith, get-rows_of, at_most, mul-suc)
 
 pub ruleset numbered = (full_in_turn, length-rows_of, row_there, row_within, rows_in_turn)
 

@@ -31,12 +31,9 @@ payoff_tokens r = Bare (number_text r) ∷ []
 abbrev row_tokens : List Ratio → List Token
 row_tokens row = flat_map payoff_tokens row
 
-is_payoff : (r : Ratio) → IsFraction r → IsPayoff (payoff_tokens r) r
-is_payoff r h = (number_text r, refl, written_is_read r h)
-
 is_rows : (rs : List (List Ratio)) → AllByRecursion (λ row. AllByRecursion IsFraction row) rs
     → IsPayoffBody (flat_map row_tokens rs) rs
-is_rows rs h = grind (arith, each_group, all_weaker, is_payoff)
+is_rows rs h = grind (arith, each_group, all_weaker, written_is_read)
 
 -- ---- the table
 

@@ -27,9 +27,8 @@ pub ruleset payoff_written = (append_assoc, length-append, payoff_last, payoff_o
 row_laid : (width : ℕ) (payoff : Ratio) (row payoffs : List Ratio)
     → payoffs_text width (length (payoff ∷ row)) ((payoff ∷ row) ++ payoffs)
     ≡ line_text (payoff ∷ row) ++ payoffs_text width width payoffs
+row_laid width payoff (next ∷ row) payoffs = grind (arith, append_assoc, row_laid width next row)
 row_laid width payoff [] payoffs = grind (arith, append_assoc)
-row_laid width payoff (next ∷ row) payoffs =
-    grind (arith, append_assoc, row_laid width next row payoffs)
 
 -- rows are lines
 pub rows_laid : (width : ℕ) (rs : List (List Ratio)) → AllByRecursion (λ row. 0 < length row) rs

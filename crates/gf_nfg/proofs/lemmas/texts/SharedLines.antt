@@ -21,8 +21,7 @@ pub ruleset lines_more = (line_more)
 -- a text grows, whether a line was written or only a part of it
 pub line_grows : {A E : Type 0} (r : Result A E) (old new line : List ℕ) → OnOk r (new ≡ old ++ line)
     → OnErr r (Keeps old new) → length old ≤ length new
-line_grows (Ok a) old new line whole kept = grind (arith, length-append)
-line_grows (Err e) old new line whole kept = grind (arith, length-take)
+line_grows r old new line whole kept = grind (arith, length-append, length-take)
 
 -- ---- chosen lines
 
