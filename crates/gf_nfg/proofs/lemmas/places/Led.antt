@@ -65,14 +65,6 @@ changes_by q c t = grind (arith, nat_tests)
 pub changes : (s after : State) (t : Token) → step s t ≡ Ok after → Changes s after t
 changes s after t e = subst (ChangesBy s t) e (changes_by s.position s.content t)
 
-pub taken_past : (s after : State) (t : Token) → step s t ≡ Ok after → IsWithin s
-    → profile_limit < after.content.profiles → taken s t ≡ Err TooManyProfiles
-taken_past s after t e few over = grind (arith, changes, nat_tests)
-
-pub taken_within : (s after : State) (t : Token) → step s t ≡ Ok after → IsWithin after
-    → taken s t ≡ Ok after
-taken_within s after t e few = grind (arith, changes s, nat_tests)
-
 -- where tokens lead that do not pass it
 pub stays : (ts : List Token) (s after : State) → IsWithin s → any_format.walk taken s ts ≡ Ok after
     → (walk s ts ≡ Ok after) × IsWithin after
@@ -82,8 +74,7 @@ stays (t ∷ ts) s after few e = grind (arith, then_ok, any_format.walk, stays t
 pub read_stays : (ts : List Token) (c : Content) → any_format.run taken finish start ts ≡ Ok c
     → (run start ts ≡ Ok c) × (c.profiles ≤ profile_limit)
 read_stays ts c e =
-    let m = run_split taken finish ts [] start c (cc (append-nil ts, e)) in
-    grind (arith, stays, run_whole)
+    grind (arith, stays, run_whole, run_split taken finish ts [] start c (cc (append-nil ts, e)))
 
 -- ---- above the limit
 
@@ -100,7 +91,7 @@ pub takes : (ts : List Token) (s after : State) → walk s ts ≡ Ok after → I
 takes [] s after e few = e
 takes (t ∷ ts) s after e few =
     let h = then_ok (step s t) (λ x. walk x ts) after e in
-    grind (arith, walk_grows ts h.0 after h.2, taken_within, takes ts)
+    grind (arith, walk_grows ts h.0 after h.2, takes ts, changes, nat_tests)
 
 -- nor does a run that ends well
 run_grows : (ts : List Token) (s : State) (r : Content) → run s ts ≡ Ok r
@@ -126,8 +117,7 @@ begins_within ts s h within =
     let e = ends s.position s.content in
     let all : run start (ts ++ e.more) ≡ Ok e.read =
     run_after step finish ts e.more start s h ∙ e.goes_on in
-    let size = size_read (ts ++ e.more) e.read all in
-    grind (arith, sentence_found, e.count)
+    grind (arith, sentence_found, e.count, size_read (ts ++ e.more) e.read all)
 
 -- up to there the limit was not passed
 pub stays_within : (ts : List Token) (s : State) → Leads ts s → s.content.profiles ≤ profile_limit

@@ -25,9 +25,8 @@ pub record Passes (ts : List Token) (t : Token) : Type 0 where
 
 pub machine_passes : (ts : List Token) (t : Token) → PassesLimit ts t → Passes ts t
 machine_passes ts t h =
-    let a = walks follows ts h.0 h.2 in
     let b = walks follows (ts ++ t ∷ []) h.1 h.3 in
-    let m = walk_split step ts (t ∷ []) start b.0 b.1 in grind arith
+    grind (arith, walks follows ts h.0 h.2, walk_split step ts (t ∷ []) start b.0 b.1)
 
 pub places_pass : (ts : List Token) (t : Token) → Passes ts t → PassesLimit ts t
 places_pass ts t h = (

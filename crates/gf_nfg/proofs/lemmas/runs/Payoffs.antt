@@ -226,15 +226,12 @@ module _ (players : ℕ) (outcomes : List (List Ratio))
     pub rows : map (row_of players (joined outcomes)) choices ≡ rs
     pub count : length choices ≡ length rs
 
-  pays_row : (k : ℕ) (row : List Ratio) → Pays players outcomes k row
-      → (k ≤ length outcomes) × (row_of players (joined outcomes) k ≡ row)
-  pays_row k row h = grind (arith, slice_get_within, get-joined)
-
   pub choices_chosen : (rs : List (List Ratio)) (tokens : List Token)
       → Each (IsOutcomeNumber players outcomes) tokens rs → Chosen tokens rs
   choices_chosen (row ∷ rs) tokens h =
       let k = h.3.1 in
-      let p = pays_row k row h.3.4 in
+      let p : (k ≤ length outcomes) × (row_of players (joined outcomes) k ≡ row) =
+      grind (arith, slice_get_within, get-joined) in
       let more = choices_chosen rs h.1 h.4 in
       record {
         choices = k ∷ more.choices;

@@ -40,17 +40,13 @@ module _ {A : Type 0} (P : List Token → A → Type 0) (state : ℕ → Content
   First ts due c r = (first : List Token) × (rest : List Token) × (item : A) × (ts ≡ first ++ rest)
       × P first item × (run (state due (add c item)) rest ≡ Ok r)
 
-  -- they are as many groups as are due and the rest
-  abbrev pub Groups : List Token → ℕ → Content → Content → Type 0
-  Groups ts due c r = (inner : List Token) × (rest : List Token) × (items : List A)
-      × (ts ≡ inner ++ rest) × Each P inner items × (length items ≡ due)
-      × (run (state 0 (all_in add c items)) rest ≡ Ok r)
-
-  -- if each run that ends well takes a group first
+  -- they are as many groups as are due and the rest, if each run that ends well takes a group first
   pub groups_found : ((ts : List Token) (due : ℕ) (c r : Content)
       → run (state (suc due) c) ts ≡ Ok r → First ts due c r)
       → (ts : List Token) (due : ℕ) (c r : Content) → run (state due c) ts ≡ Ok r
-      → Groups ts due c r
+      → (inner : List Token) × (rest : List Token) × (items : List A)
+      × (ts ≡ inner ++ rest) × Each P inner items × (length items ≡ due)
+      × (run (state 0 (all_in add c items)) rest ≡ Ok r)
   groups_found one ts zero c r e = ([], ts, [], refl, refl, refl, e)
   groups_found one ts (suc due) c r e =
       let f = one ts due c r e in
@@ -254,8 +250,7 @@ group_walk : (k : Kind) (due : ℕ) (c : Content) (group : List Token) (labels :
     → walk (due_at k (suc due) c) group ≡ Ok (due_at k due (with_group k c labels))
 group_walk ByCounts due c group labels h some =
     let same : length labels ≡ h.1 = ap length h.4 ∙ length-counted_labels h.1 in
-    let read = count_again h.0 h.1 (omega (arith, some, same)) h.3 in
-    grind arith
+    grind (arith, count_again h.0 h.1 (omega (arith, some, same)) h.3)
 group_walk ByLists due c group labels h some =
     let whole = walk_on step (Opening ∷ map Text labels) (Closing ∷ []) (due_at ByLists (suc due) c)
     (at (p.InList due (length labels)) (with_labels c labels)) in
@@ -283,7 +278,6 @@ pub strategies_again : (k : Kind) (strategies : StrategyLists) (inner rest : Lis
     → run (at (p.FirstStrategies (length strategies)) c) (inner ++ Closing ∷ rest)
     ≡ run (strategies_end (with_counts c (map length strategies) (labels_in k strategies))) rest
 strategies_again k strategies inner rest c h some =
-    let goes = run_after step finish inner (Closing ∷ rest) _ _
-    (groups_walk k strategies inner c h some) in
-    let first = either_first k strategies inner rest c h in
-    grind (arith, all_groups)
+    let goes =
+    run_after step finish inner (Closing ∷ rest) _ _ (groups_walk k strategies inner c h some) in
+    grind (arith, all_groups, either_first k strategies inner rest c h)

@@ -35,9 +35,6 @@ module _ (bytes : List ℕ) (heading : Heading) (l : Listing)
   abbrev body : Frame → Body
   body frame = Body.InTurn frame l.whole l.kept.payoffs
 
-  none_chosen : l.kept.numbers.items ≡ [] → told.choices ≡ []
-  none_chosen none = sym h.holding.numbers_are ∙ none
-
   in_turn_told : (frame : Frame) → frame ≡ frame_in (content_in heading)
       → l.kept.numbers.items ≡ [] → listed (body frame) ≡ table_of told
   in_turn_told frame is none = grind (arith, profiles_counted told h.means.complete)
@@ -45,9 +42,8 @@ module _ (bytes : List ℕ) (heading : Heading) (l : Listing)
   pub in_turn_listed : (frame : Frame) → frame ≡ frame_in (content_in heading)
       → l.kept.numbers.items ≡ [] → IsListed (body frame)
   in_turn_listed frame is none =
-      let same = in_turn_told frame is none in
-      let told_is = payoffs_told told h.means.complete (none_chosen none) in
-      grind (arith, is_table told h.means.complete)
+      let told_is = payoffs_told told h.means.complete (sym h.holding.numbers_are ∙ none) in
+      grind (arith, is_table told h.means.complete, in_turn_told frame is none)
 
   pub in_turn_means : (frame : Frame) → frame ≡ frame_in (content_in heading)
       → l.kept.numbers.items ≡ []
@@ -94,12 +90,6 @@ pub ruleset same_listed = (same_by_rows, same_in_turn)
 
 -- ---- a table and what was told
 
--- with any payoffs after these it is all exactly when no difference was found, and they are what is
--- left
-abbrev pub Compares : List Ratio → Bool → List Ratio → List Ratio → Type 0
-Compares all same left told =
-    (rest : List Ratio) → (all ≡ told ++ rest) ↔ (IsTrue same × (left ≡ rest))
-
 module _ (t : Table) (bytes : List ℕ) (heading : Heading) (c : Comparison)
     (h : HasToldTable (IsCompared (joined (rows t))) bytes heading c) where
   abbrev pub other : Content
@@ -109,19 +99,17 @@ module _ (t : Table) (bytes : List ℕ) (heading : Heading) (c : Comparison)
       → (IsTrue c.same × (c.left ≡ [])) ↔ (joined (rows t) ≡ joined (rows (table_of other)))
   payoffs_compared version =
       let told_version = sym h.holding.version_is ∙ version in
-      let compared : Compares (joined (rows t)) c.same c.left h.payoffs = grind arith in
-      let payoffs = payoffs_told other h.means.complete (h.unnumbered told_version) in
-      let end = compared [] in
-      grind (arith, append-nil)
+      let compared : (joined (rows t) ≡ h.payoffs ++ []) ↔ (IsTrue c.same × (c.left ≡ [])) =
+      grind arith in
+      grind (arith, append-nil, payoffs_told other h.means.complete (h.unnumbered told_version))
 
   pub told_compared : (names : Names) (m n : Frame) → IsTable t → m ≡ own_frame t
       → n ≡ frame_in (content_in heading) → c.version ≡ Payoffs
       → SameTable (named_by names t) (named_by names (table_of other))
       ↔ ((frame_by names m ≡ frame_by names n) × (IsTrue c.same × (c.left ≡ [])))
   told_compared names m n ht mine theirs version =
-      let payoffs = payoffs_compared version in
       let same = same_in_turn names t (table_of other) ht (is_table other h.means.complete) in
-      grind arith
+      grind (arith, payoffs_compared version)
 
   pub parts_kept : c.version ≡ Outcomes
       → MeansTable bytes (content_of heading c.kept)

@@ -41,14 +41,11 @@ module _ (c : Content) (h : IsComplete c) where
   abbrev rs : List (List Ratio)
   rs = rows_by c c.choices
 
-  rows_counted : length rs ≡ c.profiles
-  rows_counted = grind (arith, kept.rows_counted, has_rows)
-
   pub profiles_counted : c.profiles ≡ product (map length (frame_in c).strategies)
   profiles_counted = grind (arith, counts-strategies_of)
 
   one_row_each : length rs ≡ product (map length (frame_in c).strategies)
-  one_row_each = rows_counted ∙ profiles_counted
+  one_row_each = (grind (arith, kept.rows_counted, has_rows)) ∙ profiles_counted
 
   pub rows-table_of : rows (table_of c) ≡ rs
   rows-table_of = kept.rows-table_with (frame_in c) rs one_row_each

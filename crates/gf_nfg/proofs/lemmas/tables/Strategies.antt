@@ -59,9 +59,8 @@ own_length {labels} {own} {start} {end} h = grind (arith, length-take, length-dr
 pub own_label : {labels own : List (List ℕ)} {start end k : ℕ} → IsOwn labels own start end
     → k < length own → (start + k < end) × (slice_get own k ≡ slice_get labels (start + k))
 own_label {labels} {own} {start} {end} {k} h less =
-    let size = own_length h in
     let taken = get_or-take (end - start) (drop start labels) k [] in
-    grind (arith, get_or-drop, slice_get-get_or)
+    grind (arith, get_or-drop, slice_get-get_or, own_length)
 
 pub has_list : (lists : List (List (List ℕ))) (at k : ℕ) → k < length (get_or lists at [])
     → at < length lists

@@ -14,9 +14,6 @@ use Rattle.gf_nfg.proofs.lemmas.tables.Same.{same_is_equal}
 
 -- ---- lists of labels
 
-abbrev names_text : List (List ℕ) → List ℕ
-names_text names = list_text (map quoted names)
-
 abbrev names_tokens : List (List ℕ) → List Token
 names_tokens names = braced (map Text names)
 
@@ -49,7 +46,8 @@ tells_table t h =
     let heading = fields (both (word (codes "NFG") (refl, (refl, (refl, tt))))
     (both (word (codes "1") (refl, tt)) (both (word (codes "R") (refl, tt))
     (both (label t.title spelled.0) (list (labels t.players names.0)))))) in
-    let strategies = list (each_field (λ own. AllByRecursion IsLabel own) names_text names_tokens
+    let strategies = list (each_field (λ own. AllByRecursion IsLabel own)
+    (λ own. list_text (map quoted own)) names_tokens
     (λ own is. says_list (labels own is)) t.strategies (all_lists IsLabel t.strategies names.1)) in
     let payoffs = each_field (λ row. AllByRecursion IsFraction row) row_text row_tokens
     (λ row is. line (each_field IsFraction number_text payoff_tokens
@@ -94,10 +92,8 @@ text_again bytes t u h k =
 pub equal_texts : (t u : Table) → IsTable t → IsSpellable t → IsTable u → IsSpellable u
     → (table_text t ≡ table_text u) ↔ SameTable t u
 equal_texts t u ht st hu su =
-    let mine = text_reads_back t ht st in
-    let other = text_reads_back u hu su in
     let one = spells_one_table (table_text u) t u in
-    grind (arith, same_is_equal)
+    grind (arith, same_is_equal, text_reads_back)
 
 pub equal_texts_of_files : (a b : List ℕ) (t u : Table) → SpellsTable a t → SpellsTable b u
     → (table_text t ≡ table_text u) ↔ SameTable t u
