@@ -3,7 +3,7 @@
 use Rattle.gf_nfg.proofs.Common.{BeginsWithinLimit, StaysWithinLimit, IsBareOrClosing, SpellsTable}
 use Rattle.gf_nfg.proofs.Common.{IsStrategicFile, profile_limit, same_tokens, append-nil, tokens_of}
 use Rattle.gf_nfg.proofs.Common.{Position, at}
-use Rattle.gf_nfg.proofs.Common.{Sentence, table_of, is_past, Content, TooManyProfiles, nat_lt}
+use Rattle.gf_nfg.proofs.Common.{Sentence, table_of, is_past, Content, nat_lt}
 use Rattle.gf_nfg.proofs.Common.{finish, within, Lexeme, Spells, Result, length, Table, run, State}
 use Rattle.gf_nfg.proofs.Common.{start, taken, Token, arith, subst, step, List, nat_tests}
 use Rattle.gf_nfg.proofs.Common.{◌++◌, Err, Why, sym, ◌<◌, ◌∙◌, ◌∷◌, ◌≡◌, ◌≤◌, Ok, [], ℕ}

@@ -131,5 +131,9 @@ ends (p.InList left (suc n)) c = by Closing tt refl (lists_end left (with_count 
 ends (p.AfterComment left) c = by Opening tt refl (outcomes_ends 0 c)
 ends (p.OutcomeName outcomes) c = by (Text []) refl refl (braced_ends outcomes (length c.players) c)
 ends (p.BracedPayoff true outcomes left) c = by Comma tt refl (braced_ends outcomes left c)
-ends q c = grind (arith, letter_ends, title_ends, players_end, first_ends, counts_end, lists_end,
-    body_ends, flat_ends, outcomes_ends, braced_ends, numbers_ends)
+ends (p.BracedPayoff false outcomes left) c = braced_ends outcomes left c
+ends (p.FlatPayoffs left) c = flat_ends left c
+ends (p.InOutcomes outcomes) c = outcomes_ends outcomes c
+ends (p.OutcomeNumbers outcomes left) c = numbers_ends outcomes left c
+ends (p.AfterStrategies left) c = body_ends left c
+ends q c = grind (arith, letter_ends, title_ends, players_end, first_ends, counts_end, lists_end)

@@ -6,7 +6,7 @@ use Common.{content_in, content_of, append-nil, length-map, IsCompared, MeansTab
 use Common.{SameTable, mul_comm, frame_in, table_of, named_by, frame_by, Content, Payoffs, Heading}
 use Common.{Outcomes}
 use Common.{length, IsTrue, arith, Ratio, Table, Frame, ◌++◌, rows, Some, Bool, Names, true}
-use Common.{◌==◌, drop, ◌≡◌, ◌<◌, ◌+◌, ◌∷◌, sym, ◌∙◌, ◌↔◌, [], ap, ℕ}
+use Common.{◌==◌, drop, ◌≡◌, ◌+◌, ◌∷◌, sym, ◌∙◌, ◌↔◌, [], ap, ℕ}
 use Rattle.gf_nfg.specs.inner.ListedTable.{IsListed, IsListing, listed}
 use Rattle.gf_nfg.specs.declared.listed.Body.{Body}
 use Rattle.gf_nfg.specs.declared.listed.Listing.{Listing}

@@ -3,7 +3,7 @@ use Rattle.gf_nfg.proofs.Common.{◌≡◌, ℕ, List, [], ◌∷◌, ◌++◌, 
 use Rattle.gf_nfg.proofs.Common.{◌↔◌, codes, AllByRecursion, flat_map, IsLabel, Token, Text, Bare}
 use Rattle.gf_nfg.proofs.Common.{Each, braced, number_spelled, Ratio, IsFraction, written_is_read}
 use Rattle.gf_nfg.proofs.Common.{all_weaker, all_parts, all_lists, Table, IsTable, IsSpellable}
-use Rattle.gf_nfg.proofs.Common.{rows, IsLabelList, IsPayoff, IsPayoffBody, Sentence, row_text}
+use Rattle.gf_nfg.proofs.Common.{rows, IsLabelList, IsPayoffBody, Sentence, row_text}
 use Rattle.gf_nfg.proofs.Common.{list_text, quoted, table_text, SpellsTable, SameTable}
 use Rattle.gf_token.proofs.Offered.{each_group, Tells, both, each_field, empty, fields, label}
 use Rattle.gf_token.proofs.Offered.{labels, line, lines, list, says_list, says_word, word}

@@ -1,4 +1,4 @@
-use Rattle.gf_nfg.proofs.Common.{◌≡◌, Ok, arith, refl, subst, sym, range_with_len, LeadBack}
+use Rattle.gf_nfg.proofs.Common.{Ok, arith, refl, subst, sym, LeadBack}
 use Rattle.std.proofs.lemmas.Iterator.{YieldsList-from_range, items_from_collect}
 use Rattle.std.specs.declared.alloc.AllocError.{AllocError}
 use Rattle.gf_nfg.proofs.lemmas.tables.Classes.{back_begun}
