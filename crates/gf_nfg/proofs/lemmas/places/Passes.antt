@@ -29,14 +29,10 @@ machine_passes ts t h =
     grind (arith, walks follows ts h.0 h.2, walk_split step ts (t ∷ []) start b.0 b.1)
 
 pub places_pass : (ts : List Token) (t : Token) → Passes ts t → PassesLimit ts t
-places_pass ts t h = (
-  place_of h.mid,
-  place_of h.after,
-  stands follows ts h.mid h.leads,
-  stands follows (ts ++ t ∷ []) h.after (walk_more step ts t start h.mid h.after h.leads h.steps),
-  h.within,
-  h.over,
-)
+places_pass ts t h =
+    let more = walk_more step ts t start h.mid h.after h.leads h.steps in
+    let first = stands follows ts h.mid h.leads in
+    (_, _, first, stands follows (ts ++ t ∷ []) h.after more, h.within, h.over)
 
 -- ---- by files
 

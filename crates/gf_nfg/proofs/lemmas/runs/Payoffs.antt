@@ -29,9 +29,8 @@ pub flat_found : (ts : List Token) (due : ℕ) (c r : Content)
 flat_found (Bare b ∷ ts) (suc due) c r e =
     let h = paid_found (p.FlatPayoffs due) c (number_of b) ts r e in
     let k = flat_found ts due (with_payoffs c (h.0 ∷ [])) r h.2 in
-    let more = append_assoc c.payoffs (h.0 ∷ []) k.0 in
     let one : IsPayoff (Bare b ∷ []) h.0 = (b, refl, number_is b h.0 h.1) in
-    (h.0 ∷ k.0, (Bare b ∷ [], ts, refl, one, k.1), ap suc k.2, cc (k.3, more))
+    (h.0 ∷ k.0, (Bare b ∷ [], ts, refl, one, k.1), ap suc k.2, grind (arith, append_assoc, k.3))
 flat_found ts due c r e = grind (arith, ok_is, append-nil)
 
 pub flat_again : (numbers : List Ratio) (ts : List Token) (c : Content) → Each IsPayoff ts numbers

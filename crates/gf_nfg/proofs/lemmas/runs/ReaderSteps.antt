@@ -9,16 +9,6 @@ use Rattle.gf_nfg.proofs.lemmas.places.Judged.{carried, lacks_memory}
 use Rattle.gf_nfg.specs.declared.receive.Version.{Version}
 pub use Rattle.gf_token.proofs.Offered.{goes_back, fails_back as ends_back}
 
--- ---- answers carried back
-
-pub goes_from : {A : Type 0} (r : Result A Fault) (d : Answer) {a b : Answer} → a ≡ b → Goes b r d
-    → Goes a r d
-goes_from r d e h = subst (λ x. Goes x r d) (sym e) h
-
-pub goes_to : {A : Type 0} (r : Result A Fault) (a : Answer) {b d : Answer} → b ≡ d → Goes a r b
-    → Goes a r d
-goes_to r a e h = subst (λ x. Goes a r x) e h
-
 -- ---- lists of labels
 
 pub first_opens : (due : ℕ) (c : Content) (t new : Remaining) (s : Span) → 0 < due
@@ -80,4 +70,4 @@ all_told holds (Ok x) t same unnumbered holding goes whole = record {
 }
 all_told holds (Err f) t same unnumbered holding goes fails = carried fails goes
 
-pub ruleset first_steps = (first_opens, goes_from, goes_to, counts_end, lists_end)
+pub ruleset first_steps = (first_opens, counts_end, lists_end)

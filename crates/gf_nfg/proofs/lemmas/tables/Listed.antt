@@ -68,12 +68,8 @@ module _ (names : Names) (t u : Table) (ht : IsTable t) (hu : IsTable u) where
 
   pub same_by_rows : SameTable (named_by names t) (named_by names u)
       ↔ (SameFrame × (rows t ≡ rows u))
-  same_by_rows = grind (
-    arith,
-    same_is_equal (named_by names t) (named_by names u) (named_table t ht) (named_table u hu),
-    table_again (named_by names t) (named_table t ht),
-    table_again (named_by names u) (named_table u hu),
-  )
+  same_by_rows =
+      grind (arith, same_is_equal (named_by names t) (named_by names u), named_table, table_again)
 
   -- payoffs of as many players and profiles are in the same rows
   rows_parted : SameFrame → joined (rows t) ≡ joined (rows u) → rows t ≡ rows u

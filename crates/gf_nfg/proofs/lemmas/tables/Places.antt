@@ -21,10 +21,6 @@ place_below counts profile k h = grind (arith, every_profile, place_found, lengt
 
 -- ---- the code's steps, from the last player to the first
 
-pub as_many : (counts profile : List ℕ) → IsProfile counts profile
-    → length profile ≡ length counts
-as_many counts profile h = length_all_zip (λ s count. (1 ≤ s) × (s ≤ count)) profile counts h
-
 pub product_drop : (counts : List ℕ) (at : ℕ) → AllByRecursion (λ n. 0 < n) counts
     → product (drop at counts) ≤ product counts
 product_drop counts zero h = omega arith
@@ -103,4 +99,4 @@ place_there frame rs profile place h found =
     grind (arith, entries_counted (table_with frame rs) h.is_table, length-map, place_below)
 
 pub ruleset places_found =
-    (as_many, length-map, place_below, player_before, strategy_in, strategy_fits)
+    (length-map, place_below, player_before, strategy_in, strategy_fits)

@@ -72,11 +72,9 @@ profile_in (count ∷ counts) (s ∷ others) h =
     let r = profile_in counts others h.1 in
     let n = number_in 1 count s h.0.0 (omega (arith, h.0.1)) in
     let f = λ (i : ℕ). i ∷ others in
-    let g = flat_map (firsts count) in (
-      g r.0 ++ map f n.0,
-      map f n.1 ++ g r.1,
-      grind (arith, map-append, flat_map-append (firsts count) r.0 (others ∷ r.1), append_assoc),
-    )
+    let g = flat_map (firsts count) in
+    let parts = flat_map-append (firsts count) r.0 (others ∷ r.1) in
+    (g r.0 ++ map f n.0, map f n.1 ++ g r.1, grind (arith, map-append, append_assoc))
 profile_in counts profile h = absurd (grind arith)
 
 all_first : (count : ℕ) (counts others : List ℕ)

@@ -92,8 +92,7 @@ text_again bytes t u h k =
 pub equal_texts : (t u : Table) → IsTable t → IsSpellable t → IsTable u → IsSpellable u
     → (table_text t ≡ table_text u) ↔ SameTable t u
 equal_texts t u ht st hu su =
-    let one = spells_one_table (table_text u) t u in
-    grind (arith, same_is_equal, text_reads_back)
+    grind (arith, same_is_equal, text_reads_back, spells_one_table (table_text u) t u)
 
 pub equal_texts_of_files : (a b : List ℕ) (t u : Table) → SpellsTable a t → SpellsTable b u
     → (table_text t ≡ table_text u) ↔ SameTable t u

@@ -33,14 +33,6 @@ chosen_next lines numbers at h = at_drop_more (lines_with lines) numbers at 0 h
 
 pub ruleset next_chosen = (append_assoc, chosen_next, get_or_from_slice_get, length-append)
 
--- each of these numbers is that of a line
-pub numbers_within : (rows : List (List Ratio)) (numbers : List ℕ)
-    → AllByRecursion (λ number. number < length rows) numbers
-    → AllByRecursion (λ number. number < length (map line_text rows)) numbers
-numbers_within rows numbers below =
-    subst (λ (n : ℕ). AllByRecursion (λ number. number < n) numbers)
-    (sym (length-map rows line_text)) below
-
 -- the lines of all profiles
 pub lines_chosen : (rows : List (List Ratio)) (numbers : List ℕ)
     → AllByRecursion (λ number. number < length rows) numbers
@@ -49,4 +41,4 @@ pub lines_chosen : (rows : List (List Ratio)) (numbers : List ℕ)
 lines_chosen rows [] h = refl
 lines_chosen rows (number ∷ numbers) h = grind (arith, get_or-map, lines_chosen rows numbers h.1)
 
-pub ruleset shared_lines = (lines_chosen, numbers_within)
+pub ruleset shared_lines = (length-map, lines_chosen)
