@@ -92,7 +92,7 @@ pub spelled-more : (ends bytes more : List ℕ) → IsCut ends bytes → is_spel
     → AllByRecursion IsLabel (pieces 0 (ends ++ length (bytes ++ more) ∷ []) (bytes ++ more))
 spelled-more ends bytes more h spelled = grind (arith, pieces-more, all_both)
 
-pub ruleset one_piece_more = (rises-more, pieces-more, spelled-more)
+pub ruleset one_piece_more = (rises-more, rises-push, pieces-more, spelled-more)
 
 pub ruleset one_way_cut = (cut_once, slice_eq-Decides, Decides-eqb)
 

@@ -11,15 +11,11 @@ use Rattle.gf_nfg.proofs.lemmas.tables.Same.{frame_in}
 
 -- ---- one payoff
 
-pub payoff_on : (width left : ℕ) (n : Ratio) (more : List Ratio) → 1 < left
-    → payoffs_text width left (n ∷ more) ≡ number_text n ++ 32 ∷ payoffs_text width (left - 1) more
-payoff_on width left n more h = rw (lt-ltb 1 left h) refl
-
 pub payoff_last : (width left : ℕ) (n : Ratio) (more : List Ratio) → left ≤ 1
     → payoffs_text width left (n ∷ more) ≡ number_text n ++ 10 ∷ payoffs_text width width more
 payoff_last width left n more h = grind (arith, nat_tests)
 
-pub ruleset payoff_written = (append_assoc, length-append, payoff_last, payoff_on)
+pub ruleset payoff_written = (append_assoc, length-append, payoff_last)
 
 -- ---- full rows
 
