@@ -125,6 +125,6 @@ pub stays_within : (ts : List Token) (s : State) → Leads ts s → s.content.pr
 stays_within ts s h within front back token parts is =
     let a = walk_split step front (token ∷ back) start s (cc (h, parts)) in
     let b = then_ok (step a.0 token) (λ x. walk x back) s a.2 in
-    let grown = walk_grows back b.0 s b.2 in
-    begins_within (front ++ token ∷ []) b.0 (walk_more step front token start a.0 b.0 a.1 b.1)
-    (omega (arith, grown, within, (changes a.0 b.0 token b.1).settles is))
+    let leads = walk_more step front token start a.0 b.0 a.1 b.1 in
+    begins_within (front ++ token ∷ []) b.0 leads
+    (omega (arith, walk_grows back b.0 s b.2, within, (changes a.0 b.0 token b.1).settles is))

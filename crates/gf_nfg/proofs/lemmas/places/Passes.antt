@@ -8,7 +8,6 @@ use Rattle.gf_nfg.specs.LimitPlace.{PassesLimit}
 use Rattle.gf_nfg.proofs.lemmas.places.Led.{IsWithin, begins_within, changes, is_reader}
 use Rattle.gf_nfg.proofs.lemmas.places.Led.{read_past, stays_within}
 use Rattle.gf_nfg.proofs.lemmas.places.Rows.{follows}
-use Rattle.gf_nfg.proofs.lemmas.places.Steps.{place_of}
 use Rattle.gf_nfg.proofs.lemmas.runs.Common.{Leads, ok_is, walk}
 use Rattle.gf_token.proofs.Offered.{begins, leads, stands, walks, then_ok, walk_more, walk_split}
 

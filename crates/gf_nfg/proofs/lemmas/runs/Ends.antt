@@ -2,7 +2,7 @@
 use Rattle.gf_nfg.proofs.Common
 use Common.{false, true, with_choices, with_payoffs, with_labels, gcd_within, with_count, Position}
 use Common.{with_title, lowest_of, number_of, count_of, index_of, Content, Closing, Opening, length}
-use Common.{mul-one, le-leb, Ratio, whole, State, Comma, Token, arith, codes, step, Bare, Text, run}
+use Common.{mul-one, Ratio, whole, State, Comma, Token, arith, codes, step, Bare, Text, run}
 use Common.{IsSpelled, List, Some, refl, zero, pos, suc, ◌*◌, ◌+◌, ◌∷◌, ◌≡◌, at, Ok, [], p, ℕ}
 use Rattle.gf_token.proofs.Offered.{AllSpelled}
 
@@ -66,8 +66,7 @@ numbers_ends : (outcomes left : ℕ) (c : Content)
     → Ends (at (p.OutcomeNumbers outcomes left) c) c.profiles
 numbers_ends outcomes zero c = no_more c refl refl
 numbers_ends outcomes (suc left) c =
-    let known = le-leb 0 outcomes (omega arith) in
-    by (Bare zero_text) (refl, tt) (rw (zero_is_index, known) refl)
+    by (Bare zero_text) (refl, tt) (grind (arith, zero_is_index))
     (numbers_ends outcomes left (with_choices c (0 ∷ [])))
 
 outcomes_ends : (outcomes : ℕ) (c : Content) → Ends (at (p.InOutcomes outcomes) c) c.profiles

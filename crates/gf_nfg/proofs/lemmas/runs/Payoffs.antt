@@ -109,20 +109,17 @@ pub outcomes_in : (steps : ℕ) (ts : List Token) (before : ℕ) (c r : Content)
     → run (at (p.InOutcomes before) c) ts ≡ Ok r → Outcomes ts before c r
 outcomes_in zero ts before c r less e = absurd (omega arith)
 outcomes_in (suc steps) (Closing ∷ ts) before c r less e =
-    let none : before ≡ before + 0 = omega arith in
     ([], ts, [], refl, refl, grind (arith, append-nil))
 outcomes_in (suc steps) (Opening ∷ Text name ∷ ts) before c r less e =
     let b = braces_found ts (length c.players) before c r e in
     let size = ap length b.3 ∙ length-append b.1 (Closing ∷ b.2) in
     let h = outcomes_in steps b.2 (before + 1) (with_payoffs c b.0) r (omega (arith, less, size))
     b.6 in
-    let more : (before + 1) + length h.2 ≡ before + length (b.0 ∷ h.2) = omega arith in
     let group = braced (Text name ∷ b.1) in
-    let all = append_assoc c.payoffs b.0 (joined h.2) in
     let one : IsOutcomeInBraces (length c.players) group b.0 = (name, b.1, refl, b.4, b.5) in
     let parts : Opening ∷ Text name ∷ ts ≡ (group ++ h.0) ++ Closing ∷ h.1 =
     grind (arith, append_assoc) in
-    (group ++ h.0, h.1, b.0 ∷ h.2, parts, (group, h.0, refl, one, h.4), cc all)
+    (group ++ h.0, h.1, b.0 ∷ h.2, parts, (group, h.0, refl, one, h.4), grind (arith, append_assoc))
 outcomes_in (suc steps) _ before c r less e = absurd cc
 
 pub outcomes_again : (outcomes : List (List Ratio)) (list rest : List Token) (before : ℕ)

@@ -3,8 +3,8 @@
 use Rattle.gf_nfg.proofs.Common
 use Common.{StandsBefore, content_told, MatchResult, HasToldAll, content_in, length-map, Remaining}
 use Common.{Position, StandsAt, Telling, Content, Heading, Opening, read_on, Answer, Lexeme, Memory}
-use Common.{Reader, Result, answer, length, lexeme, Fails, Fault, arith, heard, subst, Goes, List}
-use Common.{Span, Text, Told, false, refl, Err, sym, ◌-◌, ◌<◌, ◌∙◌, ◌∷◌, ◌≡◌, at, Ok, [], ap, p, ℕ}
+use Common.{Reader, Result, answer, length, lexeme, Fails, Fault, arith, heard, List}
+use Common.{Span, Text, Told, false, refl, Err, ◌-◌, ◌<◌, ◌∙◌, ◌∷◌, ◌≡◌, at, Ok, [], ap, p, ℕ}
 use Rattle.gf_nfg.proofs.lemmas.places.Judged.{carried, lacks_memory}
 use Rattle.gf_nfg.specs.declared.receive.Version.{Version}
 pub use Rattle.gf_token.proofs.Offered.{goes_back, fails_back as ends_back}

@@ -5,7 +5,7 @@ use Common.{AllByRecursion, counted_labels, strategies_end, with_players, append
 use Common.{count_again, with_labels, with_count, append-nil, with_title, mul_assoc, Position, Each}
 use Common.{count_is, count_of, Closing, Content, IsCount, Opening, counted, nothing, product, Bare}
 use Common.{mul-one, Option, braced, length, finish, State, start, ◌>>=◌, Token, arith, run}
-use Common.{codes, List, Some, Text, refl, zero, ◌++◌, step, map, suc, ◌*◌, ◌+◌, ◌<◌, ◌∙◌}
+use Common.{codes, List, Some, Text, refl, zero, ◌++◌, step, map, suc, ◌*◌, ◌+◌, ◌<◌}
 use Common.{◌∷◌, ◌≡◌, ◌⊎◌, Ok, [], ap, at, p, ℕ}
 use Rattle.gf_nfg.proofs.lemmas.runs.Common.{Leads, walk}
 use Rattle.gf_token.proofs.Offered.{same_bytes, run_after, walk_on}
@@ -196,9 +196,8 @@ one_group ByCounts (Bare b ∷ ts) due c r e =
     (Bare b ∷ [], ts, counted_labels h.0, refl, (is, omega (arith, n, k.0)), cc n)
 one_group ByLists (Opening ∷ ts) due c r e =
     let h = labels_found ts due 0 c r e in
-    let size : 0 + length h.0 ≡ length h.0 = omega arith in
     let parts = append_assoc (map Text h.0) (Closing ∷ []) h.1 in
-    (braced (map Text h.0), h.1, h.0, cc (h.2, parts), (refl, rw size at h.3), rw size at h.4)
+    (braced (map Text h.0), h.1, h.0, cc (h.2, parts), (refl, grind arith), grind arith)
 one_group k _ due c r e = absurd (grind arith)
 
 -- what the strategies still due and the closing brace read
@@ -249,8 +248,7 @@ group_walk : (k : Kind) (due : ℕ) (c : Content) (group : List Token) (labels :
     → IsGroup k group labels → 0 < length labels
     → walk (due_at k (suc due) c) group ≡ Ok (due_at k due (with_group k c labels))
 group_walk ByCounts due c group labels h some =
-    let same : length labels ≡ h.1 = ap length h.4 ∙ length-counted_labels h.1 in
-    grind (arith, count_again h.0 h.1 (omega (arith, some, same)) h.3)
+    grind (arith, length-counted_labels, count_again h.0 h.1)
 group_walk ByLists due c group labels h some =
     let whole = walk_on step (Opening ∷ map Text labels) (Closing ∷ []) (due_at ByLists (suc due) c)
     (at (p.InList due (length labels)) (with_labels c labels)) in

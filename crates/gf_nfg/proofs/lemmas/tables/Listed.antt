@@ -57,9 +57,6 @@ module _ (bytes : List ℕ) (heading : Heading) (l : Listing)
 -- ---- the same table by its frame and rows
 
 module _ (names : Names) (t u : Table) (ht : IsTable t) (hu : IsTable u) where
-  named_table : (t : Table) → IsTable t → IsTable (named_by names t)
-  named_table t h = grind arith
-
   table_again : (t : Table) → IsTable t → table_with (own_frame t) (rows t) ≡ t
   table_again t h = grind (arith, entries_again)
 
@@ -69,7 +66,7 @@ module _ (names : Names) (t u : Table) (ht : IsTable t) (hu : IsTable u) where
   pub same_by_rows : SameTable (named_by names t) (named_by names u)
       ↔ (SameFrame × (rows t ≡ rows u))
   same_by_rows =
-      grind (arith, same_is_equal (named_by names t) (named_by names u), named_table, table_again)
+      grind (arith, same_is_equal (named_by names t) (named_by names u), table_again)
 
   -- payoffs of as many players and profiles are in the same rows
   rows_parted : SameFrame → joined (rows t) ≡ joined (rows u) → rows t ≡ rows u

@@ -5,7 +5,7 @@ use Common.{all_images, table_with, length-map, get_or-map, slice_get, zero, dro
 use Common.{mul_comm, profiles, IsPlaced, IsTable, PaysAt, length, get_or, IsHeld, own_of, arith}
 use Common.{Ratio, place, Table, Entry, Frame, List, drop, Some, rows}
 use Common.{◌≡◌, suc, ◌+◌, ◌-◌, ◌*◌, ◌<◌, ◌≤◌, ◌∷◌, map, ◌⊎◌, [], ℕ}
-use Rattle.std.proofs.lemmas.List.Elements.{AllZip-get_or, length_all_zip}
+use Rattle.std.proofs.lemmas.List.Elements.{AllZip-get_or}
 use Rattle.gf_nfg.proofs.lemmas.tables.Profiles.{every_profile, length-profiles}
 use Rattle.gf_nfg.proofs.lemmas.tables.Profiles.{place_at as stands_at}
 use Rattle.gf_nfg.proofs.lemmas.tables.Rows.{entries_counted}

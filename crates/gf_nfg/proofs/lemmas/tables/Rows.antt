@@ -77,12 +77,9 @@ full_rows players count payoffs (k ∷ numbers) h =
 module _ (players count : ℕ) (payoffs zeros : List Ratio) (rs : List (List Ratio)) (number : ℕ)
     (full : AreFull players count payoffs) (view : zeros ∷ rows_of players count payoffs ≡ rs)
     (less : number < length rs) where
-  at_most : number ≤ count
-  at_most = grind (arith, length-rows_of)
-
   pub row_there : number ≢ 0 → slice_get rs number ≡ Some
       (take (number * players - (number - 1) * players) (drop ((number - 1) * players) payoffs))
-  row_there some = grind (arith, get-rows_of, at_most, mul-suc)
+  row_there some = grind (arith, get-rows_of, mul-suc, length-rows_of)
 
 pub ruleset numbered = (full_in_turn, length-rows_of, row_there, rows_in_turn)
 
@@ -165,8 +162,7 @@ count_at_most (first ∷ others) zero h =
     let some = product_above_zero (map length others) (all_images (λ n. 0 < n) length others h.1) in
     grind (arith, mul-le-mul_left (length first) some)
 count_at_most (first ∷ others) (suc k) h =
-    let more = count_at_most others k h.1 in
-    grind (arith, mul-le-mul_right (product (map length others)) h.0)
+    grind (arith, mul-le-mul_right (product (map length others)) h.0, count_at_most others k h.1)
 
 pub own_count_within : (t : Table) (k : ℕ) → IsTable t → IsWithinLimit t
     → length (get_or t.strategies k []) ≤ profile_limit

@@ -1,5 +1,5 @@
 -- Tables that are the same are equal.
-use Rattle.gf_nfg.proofs.Common.{◌≡◌, ℕ, ◌<◌, List, [], length, map, get_or, sym, ap, ◌∙◌, arith}
+use Rattle.gf_nfg.proofs.Common.{◌≡◌, ℕ, ◌<◌, List, [], length, map, get_or, arith}
 use Rattle.gf_nfg.proofs.Common.{◌↔◌, Bool, IsTrue, Contains, length-map, get_or-map}
 use Rattle.gf_nfg.proofs.Common.{get_or_default, same_lists, Ratio, profiles, Entry, Table, IsTable}
 use Rattle.gf_nfg.proofs.Common.{rows, Frame, SamePlay, SameTable}
