@@ -1,7 +1,5 @@
-use Rattle.gf_nfg.proofs.Common.{arith, get_or, get_or_from_slice_get, refl, common_steps}
+use Rattle.gf_nfg.proofs.Common.{arith, get_or, get_or_from_slice_get, refl}
 use Rattle.gf_nfg.proofs.lemmas.tables.Classes.{compared_more, row_at, row_in, rows_in}
-use Rattle.gf_nfg.proofs.table.agree.same_kept_rows.Goals.{else-unite-via-else-unite}
-use Rattle.gf_nfg.proofs.table.agree.same_kept_rows.Goals.{else-unite-via-then-unite+else-not-same_row}
 use Rattle.gf_nfg.proofs.table.agree.same_kept_rows.Goals as goal
 
 pub loop-place-init : goal.loop-place-init
@@ -30,18 +28,3 @@ loop-place-preserved c =
     compared_more _ _ _ _ _ _ at _ _ c.loop-place.invariant left.0 left.1 right.1
     (grind (arith, get_or_from_slice_get)) c.unite.ensures.places
     (rw c.len-in-loop-place.ensures.len at c.unite.ensures.rows)
-
-pub returns : goal.returns
-returns c = grind (arith, common_steps)
-
-pub returns-then-m-n : goal.returns-then-m-n
-returns-then-m-n c = grind (arith, common_steps)
-
-pub row-requires : goal.row-requires
-row-requires c = grind (arith, common_steps)
-
-pub row-requires-then-unite : goal.row-requires-then-unite
-row-requires-then-unite c = grind (arith, common_steps)
-
-pub unite-requires : goal.unite-requires
-unite-requires c = grind (arith, common_steps)
