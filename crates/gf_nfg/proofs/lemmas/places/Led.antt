@@ -2,11 +2,10 @@
 -- their limit they stay there.
 use Rattle.gf_nfg.proofs.Common.{BeginsWithinLimit, StaysWithinLimit, IsBareOrClosing, SpellsTable}
 use Rattle.gf_nfg.proofs.Common.{IsStrategicFile, profile_limit, same_tokens, append-nil, tokens_of}
-use Rattle.gf_nfg.proofs.Common.{Position, at}
-use Rattle.gf_nfg.proofs.Common.{Sentence, table_of, is_past, Content, nat_lt}
-use Rattle.gf_nfg.proofs.Common.{finish, within, Lexeme, Spells, Result, length, Table, run, State}
-use Rattle.gf_nfg.proofs.Common.{start, taken, Token, arith, subst, step, List, nat_tests}
-use Rattle.gf_nfg.proofs.Common.{◌++◌, Err, Why, sym, ◌<◌, ◌∙◌, ◌∷◌, ◌≡◌, ◌≤◌, Ok, [], ℕ}
+use Rattle.gf_nfg.proofs.Common.{nat_tests, Position, Sentence, table_of, is_past, Content, nat_lt}
+use Rattle.gf_nfg.proofs.Common.{finish, within, Lexeme, Spells, Result, length, Table, State, step}
+use Rattle.gf_nfg.proofs.Common.{start, taken, Token, arith, subst, List, ◌++◌, run, Err, Why, sym}
+use Rattle.gf_nfg.proofs.Common.{◌<◌, ◌∙◌, ◌∷◌, ◌≡◌, ◌≤◌, at, Ok, [], ℕ}
 use Rattle.gf_token.specs.Offered as any_format
 use Rattle.gf_token.proofs.Offered.{IsReader, kept, run_after, run_split, run_whole, then_ok}
 use Rattle.gf_token.proofs.Offered.{walk_more, walk_split}

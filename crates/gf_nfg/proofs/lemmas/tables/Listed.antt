@@ -3,10 +3,9 @@
 use Rattle.gf_nfg.proofs.Common
 use Common.{IsWithinLimit, content_with, HasToldTable, SpellsTable, table_with, IsComplete, IsTable}
 use Common.{content_in, content_of, append-nil, length-map, IsCompared, MeansTable, slice_get, List}
-use Common.{SameTable, mul_comm, frame_in, table_of, named_by, frame_by, Content, Payoffs, Heading}
-use Common.{Outcomes}
-use Common.{length, IsTrue, arith, Ratio, Table, Frame, ◌++◌, rows, Some, Bool, Names, true}
-use Common.{◌==◌, drop, ◌≡◌, ◌+◌, ◌∷◌, sym, ◌∙◌, ◌↔◌, [], ap, ℕ}
+use Common.{SameTable, mul_comm, frame_in, table_of, named_by, frame_by, Outcomes, Content, Payoffs}
+use Common.{Heading, length, IsTrue, arith, Ratio, Table, Frame, Names, ◌++◌, rows, Some, Bool, ◌≡◌}
+use Common.{true, ◌==◌, drop, ◌+◌, ◌∷◌, sym, ◌∙◌, ◌↔◌, [], ap, ℕ}
 use Rattle.gf_nfg.specs.inner.ListedTable.{IsListed, IsListing, listed}
 use Rattle.gf_nfg.specs.declared.listed.Body.{Body}
 use Rattle.gf_nfg.specs.declared.listed.Listing.{Listing}

@@ -1,10 +1,9 @@
 -- Lines of rows that profiles share.
-use Rattle.gf_nfg.proofs.Common.{◌≡◌, ℕ, ◌+◌, ◌<◌, List, [], ◌∷◌, ◌++◌, length, map, drop, get_or}
-use Rattle.gf_nfg.proofs.Common.{append_assoc, at_drop_more, refl, arith, take, Some, slice_get}
-use Rattle.gf_nfg.proofs.Common.{length-append, AllByRecursion, get_or-map, length-map, map-append}
-use Rattle.gf_nfg.proofs.Common.{get_or_from_slice_get, Ratio, line_text, lines_with}
-use Rattle.gf_nfg.proofs.Common.{row_text, lines_text, subst, sym, Err, Ok, OnErr, Result, Keeps, ◌≤◌}
-use Rattle.gf_nfg.proofs.Common.{length-take}
+use Rattle.gf_nfg.proofs.Common.{get_or_from_slice_get, AllByRecursion, length-append, append_assoc}
+use Rattle.gf_nfg.proofs.Common.{at_drop_more, length-take, get_or-map, length-map, map-append, ◌≡◌}
+use Rattle.gf_nfg.proofs.Common.{lines_with, lines_text, slice_get, line_text, row_text, length, []}
+use Rattle.gf_nfg.proofs.Common.{get_or, Result, arith, Ratio, subst, OnErr, Keeps, List, ◌++◌, ◌+◌}
+use Rattle.gf_nfg.proofs.Common.{drop, refl, take, Some, ◌<◌, ◌∷◌, map, sym, Err, ◌≤◌, Ok, ℕ}
 use Rattle.std.specs.Prelude.{OnOk}
 use Rattle.gf_nfg.proofs.lemmas.tables.LabelLists.{one_taken_at}
 
