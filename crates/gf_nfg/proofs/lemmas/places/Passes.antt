@@ -30,8 +30,7 @@ machine_passes ts t h =
 pub places_pass : (ts : List Token) (t : Token) → Passes ts t → PassesLimit ts t
 places_pass ts t h =
     let more = walk_more step ts t start h.mid h.after h.leads h.steps in
-    let first = stands follows ts h.mid h.leads in
-    (_, _, first, stands follows (ts ++ t ∷ []) h.after more, h.within, h.over)
+    (_, _, stands follows ts h.mid h.leads, stands follows _ h.after more, h.within, h.over)
 
 -- ---- by files
 

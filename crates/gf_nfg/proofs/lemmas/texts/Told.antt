@@ -47,9 +47,8 @@ pub payoffs_written : (bytes : List ℕ) (heading : Heading) (names : Names) (t 
     × (t.text.items ≡ table_text (named_by names u))
 payoffs_written bytes heading names t is h =
     let c = content_with heading h.payoffs h.numbers in
-    let x = h.holding in
-    let lines = lines_are c h.means.complete (h.unnumbered (sym x.version_is ∙ is)) in
-    let end = rw (x.width_is, lines) at (lines_end (x.lines is)) in
+    let lines = lines_are c h.means.complete (h.unnumbered (sym h.holding.version_is ∙ is)) in
+    let end = rw (h.holding.width_is, lines) at (lines_end (h.holding.lines is)) in
     (table_of c, h.means.spelled, h.means.within, text_with names c _ h.means.complete end)
 
 -- in outcome version it ends before the lines
