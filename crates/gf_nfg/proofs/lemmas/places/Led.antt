@@ -2,11 +2,10 @@
 -- their limit they stay there.
 use Rattle.gf_nfg.proofs.Common.{BeginsWithinLimit, StaysWithinLimit, IsBareOrClosing, SpellsTable}
 use Rattle.gf_nfg.proofs.Common.{IsStrategicFile, profile_limit, same_tokens, append-nil, tokens_of}
-use Rattle.gf_nfg.proofs.Common.{Position, at}
-use Rattle.gf_nfg.proofs.Common.{Sentence, table_of, is_past, Content, TooManyProfiles, nat_lt}
-use Rattle.gf_nfg.proofs.Common.{finish, within, Lexeme, Spells, Result, length, Table, run, State}
-use Rattle.gf_nfg.proofs.Common.{start, taken, Token, arith, subst, step, List, nat_tests}
-use Rattle.gf_nfg.proofs.Common.{◌++◌, Err, Why, sym, ◌<◌, ◌∙◌, ◌∷◌, ◌≡◌, ◌≤◌, Ok, [], ℕ}
+use Rattle.gf_nfg.proofs.Common.{nat_tests, Position, Sentence, table_of, is_past, Content, nat_lt}
+use Rattle.gf_nfg.proofs.Common.{finish, within, Lexeme, Spells, Result, length, Table, State, step}
+use Rattle.gf_nfg.proofs.Common.{start, taken, Token, arith, subst, List, ◌++◌, run, Err, Why, sym}
+use Rattle.gf_nfg.proofs.Common.{◌<◌, ◌∙◌, ◌∷◌, ◌≡◌, ◌≤◌, at, Ok, [], ℕ}
 use Rattle.gf_token.specs.Offered as any_format
 use Rattle.gf_token.proofs.Offered.{IsReader, kept, run_after, run_split, run_whole, then_ok}
 use Rattle.gf_token.proofs.Offered.{walk_more, walk_split}
@@ -65,15 +64,6 @@ changes_by q c t = grind (arith, nat_tests)
 pub changes : (s after : State) (t : Token) → step s t ≡ Ok after → Changes s after t
 changes s after t e = subst (ChangesBy s t) e (changes_by s.position s.content t)
 
-pub taken_past : (s after : State) (t : Token) → step s t ≡ Ok after → IsWithin s
-    → profile_limit < after.content.profiles → taken s t ≡ Err TooManyProfiles
-taken_past s after t e few over =
-    let past = (changes s after t e).looked_at few in grind (arith, nat_tests)
-
-pub taken_within : (s after : State) (t : Token) → step s t ≡ Ok after → IsWithin after
-    → taken s t ≡ Ok after
-taken_within s after t e few = grind (arith, changes s, nat_tests)
-
 -- where tokens lead that do not pass it
 pub stays : (ts : List Token) (s after : State) → IsWithin s → any_format.walk taken s ts ≡ Ok after
     → (walk s ts ≡ Ok after) × IsWithin after
@@ -83,9 +73,7 @@ stays (t ∷ ts) s after few e = grind (arith, then_ok, any_format.walk, stays t
 pub read_stays : (ts : List Token) (c : Content) → any_format.run taken finish start ts ≡ Ok c
     → (run start ts ≡ Ok c) × (c.profiles ≤ profile_limit)
 read_stays ts c e =
-    let m = run_split taken finish ts [] start c (cc (append-nil ts, e)) in
-    let k = stays ts start m.0 (omega arith) m.1 in
-    grind (arith, m.2, run_whole)
+    grind (arith, stays, run_whole, run_split taken finish ts [] start c (cc (append-nil ts, e)))
 
 -- ---- above the limit
 
@@ -102,7 +90,7 @@ pub takes : (ts : List Token) (s after : State) → walk s ts ≡ Ok after → I
 takes [] s after e few = e
 takes (t ∷ ts) s after e few =
     let h = then_ok (step s t) (λ x. walk x ts) after e in
-    grind (arith, walk_grows ts h.0 after h.2, taken_within, takes ts)
+    grind (arith, walk_grows ts h.0 after h.2, takes ts, changes, nat_tests)
 
 -- nor does a run that ends well
 run_grows : (ts : List Token) (s : State) (r : Content) → run s ts ≡ Ok r
@@ -128,8 +116,7 @@ begins_within ts s h within =
     let e = ends s.position s.content in
     let all : run start (ts ++ e.more) ≡ Ok e.read =
     run_after step finish ts e.more start s h ∙ e.goes_on in
-    let size = size_read (ts ++ e.more) e.read all in
-    grind (arith, sentence_found, e.count)
+    grind (arith, sentence_found, e.count, size_read (ts ++ e.more) e.read all)
 
 -- up to there the limit was not passed
 pub stays_within : (ts : List Token) (s : State) → Leads ts s → s.content.profiles ≤ profile_limit
@@ -137,6 +124,6 @@ pub stays_within : (ts : List Token) (s : State) → Leads ts s → s.content.pr
 stays_within ts s h within front back token parts is =
     let a = walk_split step front (token ∷ back) start s (cc (h, parts)) in
     let b = then_ok (step a.0 token) (λ x. walk x back) s a.2 in
-    let grown = walk_grows back b.0 s b.2 in
-    begins_within (front ++ token ∷ []) b.0 (walk_more step front token start a.0 b.0 a.1 b.1)
-    (omega (arith, grown, within, (changes a.0 b.0 token b.1).settles is))
+    let leads = walk_more step front token start a.0 b.0 a.1 b.1 in
+    begins_within (front ++ token ∷ []) b.0 leads
+    (omega (arith, walk_grows back b.0 s b.2, within, (changes a.0 b.0 token b.1).settles is))

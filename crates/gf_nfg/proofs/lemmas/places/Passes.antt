@@ -8,7 +8,6 @@ use Rattle.gf_nfg.specs.LimitPlace.{PassesLimit}
 use Rattle.gf_nfg.proofs.lemmas.places.Led.{IsWithin, begins_within, changes, is_reader}
 use Rattle.gf_nfg.proofs.lemmas.places.Led.{read_past, stays_within}
 use Rattle.gf_nfg.proofs.lemmas.places.Rows.{follows}
-use Rattle.gf_nfg.proofs.lemmas.places.Steps.{place_of}
 use Rattle.gf_nfg.proofs.lemmas.runs.Common.{Leads, ok_is, walk}
 use Rattle.gf_token.proofs.Offered.{begins, leads, stands, walks, then_ok, walk_more, walk_split}
 
@@ -25,19 +24,13 @@ pub record Passes (ts : List Token) (t : Token) : Type 0 where
 
 pub machine_passes : (ts : List Token) (t : Token) → PassesLimit ts t → Passes ts t
 machine_passes ts t h =
-    let a = walks follows ts h.0 h.2 in
     let b = walks follows (ts ++ t ∷ []) h.1 h.3 in
-    let m = walk_split step ts (t ∷ []) start b.0 b.1 in grind arith
+    grind (arith, walks follows ts h.0 h.2, walk_split step ts (t ∷ []) start b.0 b.1)
 
 pub places_pass : (ts : List Token) (t : Token) → Passes ts t → PassesLimit ts t
-places_pass ts t h = (
-  place_of h.mid,
-  place_of h.after,
-  stands follows ts h.mid h.leads,
-  stands follows (ts ++ t ∷ []) h.after (walk_more step ts t start h.mid h.after h.leads h.steps),
-  h.within,
-  h.over,
-)
+places_pass ts t h =
+    let more = walk_more step ts t start h.mid h.after h.leads h.steps in
+    (_, _, stands follows ts h.mid h.leads, stands follows _ h.after more, h.within, h.over)
 
 -- ---- by files
 

@@ -2,7 +2,7 @@
 use Rattle.gf_nfg.proofs.Common
 use Common.{false, true, with_choices, with_payoffs, with_labels, gcd_within, with_count, Position}
 use Common.{with_title, lowest_of, number_of, count_of, index_of, Content, Closing, Opening, length}
-use Common.{mul-one, le-leb, Ratio, whole, State, Comma, Token, arith, codes, step, Bare, Text, run}
+use Common.{mul-one, Ratio, whole, State, Comma, Token, arith, codes, step, Bare, Text, run}
 use Common.{IsSpelled, List, Some, refl, zero, pos, suc, ◌*◌, ◌+◌, ◌∷◌, ◌≡◌, at, Ok, [], p, ℕ}
 use Rattle.gf_token.proofs.Offered.{AllSpelled}
 
@@ -66,8 +66,7 @@ numbers_ends : (outcomes left : ℕ) (c : Content)
     → Ends (at (p.OutcomeNumbers outcomes left) c) c.profiles
 numbers_ends outcomes zero c = no_more c refl refl
 numbers_ends outcomes (suc left) c =
-    let known = le-leb 0 outcomes (omega arith) in
-    by (Bare zero_text) (refl, tt) (rw (zero_is_index, known) refl)
+    by (Bare zero_text) (refl, tt) (grind (arith, zero_is_index))
     (numbers_ends outcomes left (with_choices c (0 ∷ [])))
 
 outcomes_ends : (outcomes : ℕ) (c : Content) → Ends (at (p.InOutcomes outcomes) c) c.profiles
@@ -122,23 +121,18 @@ pub ends : (q : Position) (c : Content) → Ends (at q c) (reached q c.profiles)
 ends p.Format c = by (Bare (codes "NFG")) (refl, (refl, (refl, tt))) refl
     (by (Bare (codes "1")) (refl, tt) refl (letter_ends c))
 ends p.Version c = by (Bare (codes "1")) (refl, tt) refl (letter_ends c)
-ends p.Letter c = letter_ends c
-ends p.Title c = title_ends c
 ends p.BeforePlayers c = by Opening tt refl (players_end c)
-ends p.InPlayers c = players_end c
 ends p.BeforeStrategies c = by Opening tt refl (first_ends (length c.players) c)
-ends (p.FirstStrategies left) c = first_ends left c
-ends (p.Counts left) c = counts_end left c
-ends (p.BeforeList left) c = lists_end left c
 ends (p.InList left zero) c = by_one c.profiles
     (by (Text []) refl refl (by Closing tt refl
     (lists_end left (with_count (with_labels c ([] ∷ [])) 1))))
 ends (p.InList left (suc n)) c = by Closing tt refl (lists_end left (with_count c (suc n)))
-ends (p.AfterStrategies left) c = body_ends left c
 ends (p.AfterComment left) c = by Opening tt refl (outcomes_ends 0 c)
-ends (p.FlatPayoffs left) c = flat_ends left c
-ends (p.InOutcomes outcomes) c = outcomes_ends outcomes c
 ends (p.OutcomeName outcomes) c = by (Text []) refl refl (braced_ends outcomes (length c.players) c)
 ends (p.BracedPayoff true outcomes left) c = by Comma tt refl (braced_ends outcomes left c)
 ends (p.BracedPayoff false outcomes left) c = braced_ends outcomes left c
+ends (p.FlatPayoffs left) c = flat_ends left c
+ends (p.InOutcomes outcomes) c = outcomes_ends outcomes c
 ends (p.OutcomeNumbers outcomes left) c = numbers_ends outcomes left c
+ends (p.AfterStrategies left) c = body_ends left c
+ends q c = grind (arith, letter_ends, title_ends, players_end, first_ends, counts_end, lists_end)

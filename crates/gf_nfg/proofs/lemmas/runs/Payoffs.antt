@@ -29,9 +29,8 @@ pub flat_found : (ts : List Token) (due : ℕ) (c r : Content)
 flat_found (Bare b ∷ ts) (suc due) c r e =
     let h = paid_found (p.FlatPayoffs due) c (number_of b) ts r e in
     let k = flat_found ts due (with_payoffs c (h.0 ∷ [])) r h.2 in
-    let more = append_assoc c.payoffs (h.0 ∷ []) k.0 in
     let one : IsPayoff (Bare b ∷ []) h.0 = (b, refl, number_is b h.0 h.1) in
-    (h.0 ∷ k.0, (Bare b ∷ [], ts, refl, one, k.1), ap suc k.2, cc (k.3, more))
+    (h.0 ∷ k.0, (Bare b ∷ [], ts, refl, one, k.1), ap suc k.2, grind (arith, append_assoc, k.3))
 flat_found ts due c r e = grind (arith, ok_is, append-nil)
 
 pub flat_again : (numbers : List Ratio) (ts : List Token) (c : Content) → Each IsPayoff ts numbers
@@ -110,20 +109,17 @@ pub outcomes_in : (steps : ℕ) (ts : List Token) (before : ℕ) (c r : Content)
     → run (at (p.InOutcomes before) c) ts ≡ Ok r → Outcomes ts before c r
 outcomes_in zero ts before c r less e = absurd (omega arith)
 outcomes_in (suc steps) (Closing ∷ ts) before c r less e =
-    let none : before ≡ before + 0 = omega arith in
     ([], ts, [], refl, refl, grind (arith, append-nil))
 outcomes_in (suc steps) (Opening ∷ Text name ∷ ts) before c r less e =
     let b = braces_found ts (length c.players) before c r e in
     let size = ap length b.3 ∙ length-append b.1 (Closing ∷ b.2) in
     let h = outcomes_in steps b.2 (before + 1) (with_payoffs c b.0) r (omega (arith, less, size))
     b.6 in
-    let more : (before + 1) + length h.2 ≡ before + length (b.0 ∷ h.2) = omega arith in
     let group = braced (Text name ∷ b.1) in
-    let all = append_assoc c.payoffs b.0 (joined h.2) in
     let one : IsOutcomeInBraces (length c.players) group b.0 = (name, b.1, refl, b.4, b.5) in
     let parts : Opening ∷ Text name ∷ ts ≡ (group ++ h.0) ++ Closing ∷ h.1 =
     grind (arith, append_assoc) in
-    (group ++ h.0, h.1, b.0 ∷ h.2, parts, (group, h.0, refl, one, h.4), cc all)
+    (group ++ h.0, h.1, b.0 ∷ h.2, parts, (group, h.0, refl, one, h.4), grind (arith, append_assoc))
 outcomes_in (suc steps) _ before c r less e = absurd cc
 
 pub outcomes_again : (outcomes : List (List Ratio)) (list rest : List Token) (before : ℕ)
@@ -131,11 +127,9 @@ pub outcomes_again : (outcomes : List (List Ratio)) (list rest : List Token) (be
     → run (at (p.InOutcomes before) c) (list ++ Closing ∷ rest)
     ≡ run (at (p.OutcomeNumbers (before + length outcomes) c.profiles)
     (with_payoffs c (joined outcomes))) rest
-outcomes_again [] list rest before c h = grind (arith, append-nil)
 outcomes_again (payoffs ∷ outcomes) list rest before c h =
-    let ends = braces_again payoffs h.3.1 (h.1 ++ Closing ∷ rest) before c h.3.3 false in
-    let more = outcomes_again outcomes h.1 rest (before + 1) (with_payoffs c payoffs) h.4 in
-    grind (arith, h.3.0, append_assoc, joined)
+    grind (arith, braces_again, append_assoc, joined, outcomes_again outcomes)
+outcomes_again [] list rest before c h = grind (arith, append-nil)
 
 -- ---- outcomes' numbers
 
@@ -228,15 +222,12 @@ module _ (players : ℕ) (outcomes : List (List Ratio))
     pub rows : map (row_of players (joined outcomes)) choices ≡ rs
     pub count : length choices ≡ length rs
 
-  pays_row : (k : ℕ) (row : List Ratio) → Pays players outcomes k row
-      → (k ≤ length outcomes) × (row_of players (joined outcomes) k ≡ row)
-  pays_row k row h = grind (arith, slice_get_within, get-joined)
-
   pub choices_chosen : (rs : List (List Ratio)) (tokens : List Token)
       → Each (IsOutcomeNumber players outcomes) tokens rs → Chosen tokens rs
   choices_chosen (row ∷ rs) tokens h =
       let k = h.3.1 in
-      let p = pays_row k row h.3.4 in
+      let p : (k ≤ length outcomes) × (row_of players (joined outcomes) k ≡ row) =
+      grind (arith, slice_get_within, get-joined) in
       let more = choices_chosen rs h.1 h.4 in
       record {
         choices = k ∷ more.choices;

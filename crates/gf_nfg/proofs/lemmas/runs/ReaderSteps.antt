@@ -3,21 +3,11 @@
 use Rattle.gf_nfg.proofs.Common
 use Common.{StandsBefore, content_told, MatchResult, HasToldAll, content_in, length-map, Remaining}
 use Common.{Position, StandsAt, Telling, Content, Heading, Opening, read_on, Answer, Lexeme, Memory}
-use Common.{Reader, Result, answer, length, lexeme, Fails, Fault, arith, heard, subst, Goes, List}
-use Common.{Span, Text, Told, false, refl, Err, sym, ◌-◌, ◌<◌, ◌∙◌, ◌∷◌, ◌≡◌, at, Ok, [], ap, p, ℕ}
+use Common.{Reader, Result, answer, length, lexeme, Fails, Fault, arith, heard, List}
+use Common.{Span, Text, Told, false, refl, Err, ◌-◌, ◌<◌, ◌∙◌, ◌∷◌, ◌≡◌, at, Ok, [], ap, p, ℕ}
 use Rattle.gf_nfg.proofs.lemmas.places.Judged.{carried, lacks_memory}
 use Rattle.gf_nfg.specs.declared.receive.Version.{Version}
 pub use Rattle.gf_token.proofs.Offered.{goes_back, fails_back as ends_back}
-
--- ---- answers carried back
-
-pub goes_from : {A : Type 0} (r : Result A Fault) (d : Answer) {a b : Answer} → a ≡ b → Goes b r d
-    → Goes a r d
-goes_from r d e h = subst (λ x. Goes x r d) (sym e) h
-
-pub goes_to : {A : Type 0} (r : Result A Fault) (a : Answer) {b d : Answer} → b ≡ d → Goes a r b
-    → Goes a r d
-goes_to r a e h = subst (λ x. Goes a r x) e h
 
 -- ---- lists of labels
 
@@ -80,4 +70,4 @@ all_told holds (Ok x) t same unnumbered holding goes whole = record {
 }
 all_told holds (Err f) t same unnumbered holding goes fails = carried fails goes
 
-pub ruleset first_steps = (first_opens, goes_from, goes_to, counts_end, lists_end)
+pub ruleset first_steps = (first_opens, counts_end, lists_end)

@@ -46,30 +46,21 @@ flat_body : (ts : List Token) (c r : Content)
     → Body ts c r
 flat_body ts c r e = grind (arith, flat_found, rows_each)
 
-outcome_body : (ts : List Token) (c r : Content) → 0 < c.profiles
-    → run (at (p.InOutcomes 0) (filled c [] [])) ts ≡ Ok r → Body (Opening ∷ ts) c r
-outcome_body ts c r above e =
-    let h = outcomes_in (length ts + 1) ts 0 (filled c [] []) r (omega arith) e in
-    let none : 0 + length h.2 ≡ length h.2 = omega arith in
-    let k = choices_found h.1 c.profiles (length h.2) (filled c (joined h.2) []) r (cc h.5) in
-    let some : 0 < length k.choices = omega (arith, k.count, above) in
-    let full = outcomes_full (length c.players) h.2 h.0 h.4 in
-    let size = length-joined_rows (length c.players) h.2 full in
-    grind (arith, joined, append_assoc, rows_chosen, choices_pay)
-
 body_found : (ts : List Token) (c r : Content) → 0 < c.profiles
     → run (at (p.AfterComment (length c.players * c.profiles)) (filled c [] [])) ts ≡ Ok r
     → Body ts c r
-body_found (Opening ∷ ts) c r above e = outcome_body ts c r above e
+body_found (Opening ∷ ts) c r above e =
+    let h = outcomes_in (length ts + 1) ts 0 (filled c [] []) r (omega arith) e in
+    let none : 0 + length h.2 ≡ length h.2 = omega arith in
+    let k = choices_found h.1 c.profiles (length h.2) (filled c (joined h.2) []) r (cc h.5) in
+    grind (arith, outcomes_full, length-joined_rows, joined, append_assoc, rows_chosen, choices_pay)
 body_found ts c r above e = flat_body ts c r (grind arith)
 
 -- the comment and the body, after what is neither
-abbrev Commented : List Token → Content → Content → Type 0
-Commented ts c r = (comment : List Token) × (body : List Token) × (said : List ℕ)
-    × (ts ≡ comment ++ body) × IsComment comment said × Body body (with_comment c said) r
-
 comment_found : (ts : List Token) (c r : Content) → 0 < c.profiles
-    → run (strategies_end (filled (with_comment c []) [] [])) ts ≡ Ok r → Commented ts c r
+    → run (strategies_end (filled (with_comment c []) [] [])) ts ≡ Ok r
+    → (comment : List Token) × (body : List Token) × (said : List ℕ)
+    × (ts ≡ comment ++ body) × IsComment comment said × Body body (with_comment c said) r
 comment_found (Text said ∷ ts) c r above e =
     (Text said ∷ [], ts, said, refl, inr refl, body_found ts (with_comment c said) r above e)
 comment_found ts c r above e =
@@ -147,8 +138,7 @@ strategies_mean : (k : Kind) (strategies : StrategyLists) (inner : List Token)
     → Each (IsGroup k) inner strategies → AllSome strategies
     → strategies_of (map length strategies) (labels_in k strategies) ≡ strategies
 strategies_mean k strategies inner h some =
-    let all = all_images (λ n. 0 < n) length strategies some in
-    grind (arith, counts_mean, strategies_of-joined)
+    grind (arith, counts_mean, strategies_of-joined, all_images (λ n. 0 < n) length strategies some)
 
 labels_fit : (counts : List ℕ) (labels : List (List ℕ)) → length labels ≡ sum counts
     → HasLabels counts labels

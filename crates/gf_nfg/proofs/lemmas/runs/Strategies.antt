@@ -5,7 +5,7 @@ use Common.{AllByRecursion, counted_labels, strategies_end, with_players, append
 use Common.{count_again, with_labels, with_count, append-nil, with_title, mul_assoc, Position, Each}
 use Common.{count_is, count_of, Closing, Content, IsCount, Opening, counted, nothing, product, Bare}
 use Common.{mul-one, Option, braced, length, finish, State, start, ◌>>=◌, Token, arith, run}
-use Common.{codes, List, Some, Text, refl, zero, ◌++◌, step, map, suc, ◌*◌, ◌+◌, ◌<◌, ◌∙◌}
+use Common.{codes, List, Some, Text, refl, zero, ◌++◌, step, map, suc, ◌*◌, ◌+◌, ◌<◌}
 use Common.{◌∷◌, ◌≡◌, ◌⊎◌, Ok, [], ap, at, p, ℕ}
 use Rattle.gf_nfg.proofs.lemmas.runs.Common.{Leads, walk}
 use Rattle.gf_token.proofs.Offered.{same_bytes, run_after, walk_on}
@@ -40,17 +40,13 @@ module _ {A : Type 0} (P : List Token → A → Type 0) (state : ℕ → Content
   First ts due c r = (first : List Token) × (rest : List Token) × (item : A) × (ts ≡ first ++ rest)
       × P first item × (run (state due (add c item)) rest ≡ Ok r)
 
-  -- they are as many groups as are due and the rest
-  abbrev pub Groups : List Token → ℕ → Content → Content → Type 0
-  Groups ts due c r = (inner : List Token) × (rest : List Token) × (items : List A)
-      × (ts ≡ inner ++ rest) × Each P inner items × (length items ≡ due)
-      × (run (state 0 (all_in add c items)) rest ≡ Ok r)
-
-  -- if each run that ends well takes a group first
+  -- they are as many groups as are due and the rest, if each run that ends well takes a group first
   pub groups_found : ((ts : List Token) (due : ℕ) (c r : Content)
       → run (state (suc due) c) ts ≡ Ok r → First ts due c r)
       → (ts : List Token) (due : ℕ) (c r : Content) → run (state due c) ts ≡ Ok r
-      → Groups ts due c r
+      → (inner : List Token) × (rest : List Token) × (items : List A)
+      × (ts ≡ inner ++ rest) × Each P inner items × (length items ≡ due)
+      × (run (state 0 (all_in add c items)) rest ≡ Ok r)
   groups_found one ts zero c r e = ([], ts, [], refl, refl, refl, e)
   groups_found one ts (suc due) c r e =
       let f = one ts due c r e in
@@ -72,8 +68,7 @@ begun_found format version letter ts r e = grind (arith, same_bytes)
 players_found : (ts : List Token) (c r : Content) → run (at p.InPlayers c) ts ≡ Ok r
     → (players : List (List ℕ)) × (rest : List Token) × (ts ≡ map Text players ++ Closing ∷ rest)
     × (run (at p.BeforeStrategies (with_players c players)) rest ≡ Ok r)
-players_found (Text label ∷ ts) c r e =
-    grind (arith, append_assoc, players_found ts (with_players c (label ∷ [])) r e)
+players_found (Text label ∷ ts) c r e = grind (arith, append_assoc, players_found ts)
 players_found (Closing ∷ ts) c r e = ([], ts, refl, rw append-nil e)
 players_found _ c r e = absurd cc
 
@@ -105,9 +100,8 @@ heading_line letter title players =
 
 players_walk : (players : List (List ℕ)) (c : Content)
     → walk (at p.InPlayers c) (map Text players) ≡ Ok (at p.InPlayers (with_players c players))
+players_walk (label ∷ players) c = grind (arith, append_assoc, players_walk players)
 players_walk [] c = rw append-nil refl
-players_walk (label ∷ players) c =
-    grind (arith, append_assoc, players_walk players (with_players c (label ∷ [])))
 
 pub heading_leads : (letter title : List ℕ) (players : List (List ℕ))
     → (letter ≡ codes "R") ⊎ (letter ≡ codes "D") → Leads (heading_line letter title players)
@@ -202,9 +196,8 @@ one_group ByCounts (Bare b ∷ ts) due c r e =
     (Bare b ∷ [], ts, counted_labels h.0, refl, (is, omega (arith, n, k.0)), cc n)
 one_group ByLists (Opening ∷ ts) due c r e =
     let h = labels_found ts due 0 c r e in
-    let size : 0 + length h.0 ≡ length h.0 = omega arith in
     let parts = append_assoc (map Text h.0) (Closing ∷ []) h.1 in
-    (braced (map Text h.0), h.1, h.0, cc (h.2, parts), (refl, rw size at h.3), rw size at h.4)
+    (braced (map Text h.0), h.1, h.0, cc (h.2, parts), (refl, grind arith), grind arith)
 one_group k _ due c r e = absurd (grind arith)
 
 -- what the strategies still due and the closing brace read
@@ -248,17 +241,14 @@ strategies_found _ c r e = absurd (grind arith)
 pub labels_walk : (labels : List (List ℕ)) (due n : ℕ) (c : Content)
     → walk (at (p.InList due n) c) (map Text labels)
     ≡ Ok (at (p.InList due (n + length labels)) (with_labels c labels))
+labels_walk (label ∷ labels) due n c = grind (arith, append_assoc, labels_walk labels)
 labels_walk [] due n c = grind (arith, append-nil)
-labels_walk (label ∷ labels) due n c =
-    grind (arith, append_assoc, labels_walk labels due (n + 1))
 
 group_walk : (k : Kind) (due : ℕ) (c : Content) (group : List Token) (labels : List (List ℕ))
     → IsGroup k group labels → 0 < length labels
     → walk (due_at k (suc due) c) group ≡ Ok (due_at k due (with_group k c labels))
 group_walk ByCounts due c group labels h some =
-    let same : length labels ≡ h.1 = ap length h.4 ∙ length-counted_labels h.1 in
-    let read = count_again h.0 h.1 (omega (arith, some, same)) h.3 in
-    grind arith
+    grind (arith, length-counted_labels, count_again h.0 h.1)
 group_walk ByLists due c group labels h some =
     let whole = walk_on step (Opening ∷ map Text labels) (Closing ∷ []) (due_at ByLists (suc due) c)
     (at (p.InList due (length labels)) (with_labels c labels)) in
@@ -269,11 +259,9 @@ groups_walk : (k : Kind) (strategies : StrategyLists) (inner : List Token) (c : 
     → Each (IsGroup k) inner strategies → AllSome strategies
     → walk (due_at k (length strategies) c) inner
     ≡ Ok (due_at k 0 (all_in (with_group k) c strategies))
-groups_walk k [] inner c h some = ap (walk (due_at k 0 c)) h
 groups_walk k (labels ∷ strategies) inner c h some =
-    let first = group_walk k (length strategies) c h.0 labels h.3 some.0 in
-    let more = groups_walk k strategies h.1 (with_group k c labels) h.4 some.1 in
-    grind (arith, walk_on step)
+    grind (arith, group_walk, walk_on, groups_walk k strategies h.1 (with_group k c labels) h.4)
+groups_walk k [] inner c h some = ap (walk (due_at k 0 c)) h
 
 -- the first may be of either kind
 either_first : (k : Kind) (strategies : StrategyLists) (inner rest : List Token) (c : Content)
@@ -288,7 +276,6 @@ pub strategies_again : (k : Kind) (strategies : StrategyLists) (inner rest : Lis
     → run (at (p.FirstStrategies (length strategies)) c) (inner ++ Closing ∷ rest)
     ≡ run (strategies_end (with_counts c (map length strategies) (labels_in k strategies))) rest
 strategies_again k strategies inner rest c h some =
-    let goes = run_after step finish inner (Closing ∷ rest) _ _
-    (groups_walk k strategies inner c h some) in
-    let first = either_first k strategies inner rest c h in
-    grind (arith, all_groups)
+    let goes =
+    run_after step finish inner (Closing ∷ rest) _ _ (groups_walk k strategies inner c h some) in
+    grind (arith, all_groups, either_first k strategies inner rest c h)

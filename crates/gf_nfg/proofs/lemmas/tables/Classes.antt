@@ -1,8 +1,7 @@
 -- Places in classes that are merged, and the rows at them.
-use Rattle.gf_nfg.proofs.Common
-use Common.{slice_get-get_or, range_with_len, slice_get-map, get_or_past, slice_get, ShareRows}
-use Common.{AreShared, cases_lt, LeadBack, length, get_or, all_at, arith, Ratio, List, take, Some}
-use Common.{◌≡◌, ◌++◌, ◌+◌, ◌<◌, ℕ, []}
+use Rattle.gf_nfg.proofs.Common.{slice_get-get_or, range_with_len, slice_get-map, get_or_past, List}
+use Rattle.gf_nfg.proofs.Common.{slice_get, ShareRows, AreShared, cases_lt, LeadBack, length, arith}
+use Rattle.gf_nfg.proofs.Common.{get_or, all_at, Ratio, take, Some, ◌++◌, ◌≡◌, ◌+◌, ◌<◌, [], ℕ}
 use Rattle.std.proofs.lemmas.List.{get_or_append_left, get_or-append-add}
 use Rattle.std.proofs.lemmas.List.FromFn.{get_or-range_with_len, length-range_with_len}
 use Rattle.gf_nfg.proofs.lemmas.tables.Agreement.{same_more}

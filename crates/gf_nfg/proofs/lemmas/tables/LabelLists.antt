@@ -1,11 +1,10 @@
 -- Labels that are put together: one after another, joined to one, or counted.
-use Rattle.gf_nfg.proofs.Common.{get_or_from_slice_get, is_spelling_after, slice_get_within, pieces}
-use Rattle.gf_nfg.proofs.Common.{join_with_byte, append_assoc, AreSpellings, length-drop, slice_get}
-use Rattle.gf_nfg.proofs.Common.{length-take, append-nil, and_parts, take_more, label_of, and_from}
-use Rattle.gf_nfg.proofs.Common.{IsLabel, RisesTo, length, arith, Label, true, List, ◌++◌, Some, ap}
-use Rattle.gf_nfg.proofs.Common.{take, refl, ◌≡◌, ◌+◌, ◌∷◌, map, ◌∙◌, sym, sum, [], ℕ}
-use Rattle.gf_nfg.proofs.Common.{◌<◌, ◌^◌, ◌==◌, counted_labels, decimal, false, length-append}
-use Rattle.gf_nfg.proofs.Common.{map-append, nat_tests}
+use Rattle.gf_nfg.proofs.Common
+use Common.{get_or_from_slice_get, is_spelling_after, slice_get_within, join_with_byte, length-drop}
+use Common.{counted_labels, length-append, append_assoc, AreSpellings, length-take, append-nil, ◌≡◌}
+use Common.{map-append, slice_get, and_parts, take_more, nat_tests, label_of, and_from, IsLabel, ap}
+use Common.{RisesTo, decimal, pieces, length, arith, Label, false, true, List, ◌++◌, Some, take, []}
+use Common.{refl, ◌==◌, ◌+◌, ◌∷◌, map, ◌∙◌, sym, sum, ◌<◌, ◌^◌, ℕ}
 use Rattle.gf_nfg.specs.inner.TableParts.{dashed}
 use Rattle.std.specs.Str.Parse.{AllDigits}
 use Rattle.std.proofs.lemmas.Fmt.{decimal_is_IsNumeral_wide}

@@ -3,10 +3,9 @@
 use Rattle.gf_nfg.proofs.Common
 use Common.{IsWithinLimit, content_with, HasToldTable, SpellsTable, table_with, IsComplete, IsTable}
 use Common.{content_in, content_of, append-nil, length-map, IsCompared, MeansTable, slice_get, List}
-use Common.{SameTable, mul_comm, frame_in, table_of, named_by, frame_by, Content, Payoffs, Heading}
-use Common.{Outcomes}
-use Common.{length, IsTrue, arith, Ratio, Table, Frame, ◌++◌, rows, Some, Bool, Names, true}
-use Common.{◌==◌, drop, ◌≡◌, ◌<◌, ◌+◌, ◌∷◌, sym, ◌∙◌, ◌↔◌, [], ap, ℕ}
+use Common.{SameTable, mul_comm, frame_in, table_of, named_by, frame_by, Outcomes, Content, Payoffs}
+use Common.{Heading, length, IsTrue, arith, Ratio, Table, Frame, Names, ◌++◌, rows, Some, Bool, ◌≡◌}
+use Common.{true, ◌==◌, drop, ◌+◌, ◌∷◌, sym, ◌∙◌, ◌↔◌, [], ap, ℕ}
 use Rattle.gf_nfg.specs.inner.ListedTable.{IsListed, IsListing, listed}
 use Rattle.gf_nfg.specs.declared.listed.Body.{Body}
 use Rattle.gf_nfg.specs.declared.listed.Listing.{Listing}
@@ -23,9 +22,6 @@ pub lacking : (size count : ℕ) (empty : Bool) → empty ≡ (size == 0) → em
     → size ≡ count → count ≡ 0
 lacking size count empty is none same = grind arith
 
-pub some_is : (numbers : List ℕ) → 0 < length numbers → ¬ (numbers ≡ [])
-some_is numbers some e = absurd (omega (arith, some, ap length e))
-
 payoffs_told : (c : Content) → IsComplete c → c.choices ≡ []
     → joined (rows (table_of c)) ≡ c.payoffs
 payoffs_told c h none = grind (arith, rows-table_of, rows_in_turn, mul_comm)
@@ -38,9 +34,6 @@ module _ (bytes : List ℕ) (heading : Heading) (l : Listing)
   abbrev body : Frame → Body
   body frame = Body.InTurn frame l.whole l.kept.payoffs
 
-  none_chosen : l.kept.numbers.items ≡ [] → told.choices ≡ []
-  none_chosen none = sym h.holding.numbers_are ∙ none
-
   in_turn_told : (frame : Frame) → frame ≡ frame_in (content_in heading)
       → l.kept.numbers.items ≡ [] → listed (body frame) ≡ table_of told
   in_turn_told frame is none = grind (arith, profiles_counted told h.means.complete)
@@ -48,9 +41,8 @@ module _ (bytes : List ℕ) (heading : Heading) (l : Listing)
   pub in_turn_listed : (frame : Frame) → frame ≡ frame_in (content_in heading)
       → l.kept.numbers.items ≡ [] → IsListed (body frame)
   in_turn_listed frame is none =
-      let same = in_turn_told frame is none in
-      let told_is = payoffs_told told h.means.complete (none_chosen none) in
-      grind (arith, is_table told h.means.complete)
+      let told_is = payoffs_told told h.means.complete (sym h.holding.numbers_are ∙ none) in
+      grind (arith, is_table told h.means.complete, in_turn_told frame is none)
 
   pub in_turn_means : (frame : Frame) → frame ≡ frame_in (content_in heading)
       → l.kept.numbers.items ≡ []
@@ -64,9 +56,6 @@ module _ (bytes : List ℕ) (heading : Heading) (l : Listing)
 -- ---- the same table by its frame and rows
 
 module _ (names : Names) (t u : Table) (ht : IsTable t) (hu : IsTable u) where
-  named_table : (t : Table) → IsTable t → IsTable (named_by names t)
-  named_table t h = grind arith
-
   table_again : (t : Table) → IsTable t → table_with (own_frame t) (rows t) ≡ t
   table_again t h = grind (arith, entries_again)
 
@@ -75,12 +64,8 @@ module _ (names : Names) (t u : Table) (ht : IsTable t) (hu : IsTable u) where
 
   pub same_by_rows : SameTable (named_by names t) (named_by names u)
       ↔ (SameFrame × (rows t ≡ rows u))
-  same_by_rows = grind (
-    arith,
-    same_is_equal (named_by names t) (named_by names u) (named_table t ht) (named_table u hu),
-    table_again (named_by names t) (named_table t ht),
-    table_again (named_by names u) (named_table u hu),
-  )
+  same_by_rows =
+      grind (arith, same_is_equal (named_by names t) (named_by names u), table_again)
 
   -- payoffs of as many players and profiles are in the same rows
   rows_parted : SameFrame → joined (rows t) ≡ joined (rows u) → rows t ≡ rows u
@@ -97,12 +82,6 @@ pub ruleset same_listed = (same_by_rows, same_in_turn)
 
 -- ---- a table and what was told
 
--- with any payoffs after these it is all exactly when no difference was found, and they are what is
--- left
-abbrev pub Compares : List Ratio → Bool → List Ratio → List Ratio → Type 0
-Compares all same left told =
-    (rest : List Ratio) → (all ≡ told ++ rest) ↔ (IsTrue same × (left ≡ rest))
-
 module _ (t : Table) (bytes : List ℕ) (heading : Heading) (c : Comparison)
     (h : HasToldTable (IsCompared (joined (rows t))) bytes heading c) where
   abbrev pub other : Content
@@ -112,19 +91,17 @@ module _ (t : Table) (bytes : List ℕ) (heading : Heading) (c : Comparison)
       → (IsTrue c.same × (c.left ≡ [])) ↔ (joined (rows t) ≡ joined (rows (table_of other)))
   payoffs_compared version =
       let told_version = sym h.holding.version_is ∙ version in
-      let compared : Compares (joined (rows t)) c.same c.left h.payoffs = grind arith in
-      let payoffs = payoffs_told other h.means.complete (h.unnumbered told_version) in
-      let end = compared [] in
-      grind (arith, append-nil)
+      let compared : (joined (rows t) ≡ h.payoffs ++ []) ↔ (IsTrue c.same × (c.left ≡ [])) =
+      grind arith in
+      grind (arith, append-nil, payoffs_told other h.means.complete (h.unnumbered told_version))
 
   pub told_compared : (names : Names) (m n : Frame) → IsTable t → m ≡ own_frame t
       → n ≡ frame_in (content_in heading) → c.version ≡ Payoffs
       → SameTable (named_by names t) (named_by names (table_of other))
       ↔ ((frame_by names m ≡ frame_by names n) × (IsTrue c.same × (c.left ≡ [])))
   told_compared names m n ht mine theirs version =
-      let payoffs = payoffs_compared version in
       let same = same_in_turn names t (table_of other) ht (is_table other h.means.complete) in
-      grind arith
+      grind (arith, payoffs_compared version)
 
   pub parts_kept : c.version ≡ Outcomes
       → MeansTable bytes (content_of heading c.kept)

@@ -1,10 +1,9 @@
 -- What was read in full means a table, and a table can be recovered from its parts.
-use Rattle.gf_nfg.proofs.Common.{◌≡◌, ℕ, ◌<◌, ◌≤◌, List, [], ◌∷◌, length, map, drop, refl, sym}
-use Rattle.gf_nfg.proofs.Common.{◌∙◌, arith, length-take, length-drop, sum, AllByRecursion}
-use Rattle.gf_nfg.proofs.Common.{mul_comm, length-map, Ratio, all_mapped, product}
-use Rattle.gf_nfg.proofs.Common.{profile_limit, IsWithinLimit, IsSpellable, IsTable, rows}
-use Rattle.gf_nfg.proofs.Common.{Frame, groups, IsHeld, HasRows, Content, frame_in, strategies_of}
-use Rattle.gf_nfg.proofs.Common.{rows_by, table_of, HasPayoffs, HasLabels, IsComplete}
+use Rattle.gf_nfg.proofs.Common
+use Common.{AllByRecursion, profile_limit, IsWithinLimit, strategies_of, length-take, length-drop}
+use Common.{IsSpellable, length-map, all_mapped, HasPayoffs, IsComplete, HasLabels, mul_comm, arith}
+use Common.{frame_in, table_of, product, IsTable, HasRows, Content, rows_by, length, groups, IsHeld}
+use Common.{Ratio, Frame, List, drop, refl, rows, ◌≡◌, ◌<◌, ◌≤◌, ◌∷◌, map, sym, ◌∙◌, sum, [], ℕ}
 use Rattle.gf_nfg.proofs.lemmas.tables.Lists.{joined, sum-cons, counts_back, groups-joined}
 use Rattle.gf_nfg.proofs.lemmas.tables.Rows as kept
 
@@ -41,14 +40,11 @@ module _ (c : Content) (h : IsComplete c) where
   abbrev rs : List (List Ratio)
   rs = rows_by c c.choices
 
-  rows_counted : length rs ≡ c.profiles
-  rows_counted = grind (arith, kept.rows_counted, has_rows)
-
   pub profiles_counted : c.profiles ≡ product (map length (frame_in c).strategies)
   profiles_counted = grind (arith, counts-strategies_of)
 
   one_row_each : length rs ≡ product (map length (frame_in c).strategies)
-  one_row_each = rows_counted ∙ profiles_counted
+  one_row_each = (grind (arith, kept.rows_counted, has_rows)) ∙ profiles_counted
 
   pub rows-table_of : rows (table_of c) ≡ rs
   rows-table_of = kept.rows-table_with (frame_in c) rs one_row_each

@@ -80,8 +80,7 @@ rises-push from (end ∷ ends) whole next h more = (h.0, rises-push end ends who
 -- a piece more
 pub rises-more : {A : Type 0} (ends : List ℕ) (items more : List A) → RisesTo (length items) 0 ends
     → RisesTo (length (items ++ more)) 0 (ends ++ length (items ++ more) ∷ [])
-rises-more ends items more h =
-    let grown = length-append items more in rises-push 0 ends _ _ h (omega (arith, grown))
+rises-more ends items more h = grind (arith, length-append, rises-push)
 
 pub pieces-more : {A : Type 0} (ends : List ℕ) (items more : List A)
     → RisesTo (length items) 0 ends
@@ -93,7 +92,7 @@ pub spelled-more : (ends bytes more : List ℕ) → IsCut ends bytes → is_spel
     → AllByRecursion IsLabel (pieces 0 (ends ++ length (bytes ++ more) ∷ []) (bytes ++ more))
 spelled-more ends bytes more h spelled = grind (arith, pieces-more, all_both)
 
-pub ruleset one_piece_more = (rises-more, pieces-more, spelled-more)
+pub ruleset one_piece_more = (rises-more, rises-push, pieces-more, spelled-more)
 
 pub ruleset one_way_cut = (cut_once, slice_eq-Decides, Decides-eqb)
 

@@ -5,7 +5,7 @@ use Common.{all_images, table_with, length-map, get_or-map, slice_get, zero, dro
 use Common.{mul_comm, profiles, IsPlaced, IsTable, PaysAt, length, get_or, IsHeld, own_of, arith}
 use Common.{Ratio, place, Table, Entry, Frame, List, drop, Some, rows}
 use Common.{◌≡◌, suc, ◌+◌, ◌-◌, ◌*◌, ◌<◌, ◌≤◌, ◌∷◌, map, ◌⊎◌, [], ℕ}
-use Rattle.std.proofs.lemmas.List.Elements.{AllZip-get_or, length_all_zip}
+use Rattle.std.proofs.lemmas.List.Elements.{AllZip-get_or}
 use Rattle.gf_nfg.proofs.lemmas.tables.Profiles.{every_profile, length-profiles}
 use Rattle.gf_nfg.proofs.lemmas.tables.Profiles.{place_at as stands_at}
 use Rattle.gf_nfg.proofs.lemmas.tables.Rows.{entries_counted}
@@ -20,16 +20,6 @@ pub place_below : (counts profile : List ℕ) (k : ℕ) → IsPlaced counts prof
 place_below counts profile k h = grind (arith, every_profile, place_found, length-profiles)
 
 -- ---- the code's steps, from the last player to the first
-
-pub as_many : (counts profile : List ℕ) → IsProfile counts profile
-    → length profile ≡ length counts
-as_many counts profile h = length_all_zip (λ s count. (1 ≤ s) × (s ≤ count)) profile counts h
-
-place_more : (counts profile : List ℕ) (at count k : ℕ) → at < length counts → at < length profile
-    → count ≡ get_or counts at 0 → 0 < get_or profile at 0 → get_or profile at 0 ≤ count
-    → IsPlaced (drop (at + 1) counts) (drop (at + 1) profile) k
-    → IsPlaced (drop at counts) (drop at profile) (k * count + (get_or profile at 0 - 1))
-place_more counts profile at count k h l c above within placed = grind (arith, drop_more, mul_comm)
 
 pub product_drop : (counts : List ℕ) (at : ℕ) → AllByRecursion (λ n. 0 < n) counts
     → product (drop at counts) ≤ product counts
@@ -74,7 +64,7 @@ pub strategy_in : {frame : Frame} {profile : List ℕ} {at place count : ℕ}
     → IsPlaced (drop at (map length frame.strategies)) (drop at profile)
     (place * count + (get_or profile at 0 - 1))
 strategy_in {frame} {profile} {at} {place} {count} a above within =
-    grind (arith, at_count a, place_more (map length frame.strategies) profile at count place)
+    grind (arith, at_count a, drop_more, mul_comm)
 
 pub strategy_fits : {frame : Frame} {profile : List ℕ} {at place count : ℕ}
     → AtPlayer frame profile at place count → 0 < get_or profile at 0 → get_or profile at 0 ≤ count
@@ -92,13 +82,10 @@ pays_at_place : (t : Table) (profile : List ℕ) (k : ℕ) (row : List Ratio) �
     → PaysAt t profile row
 pays_at_place t profile k row h placed there =
     let e : Entry = record { profile = profile; payoffs = row } in
-    let c = (every_profile (map length t.strategies) profile).1 placed.is_profile in
-    let here = place_found (map length t.strategies) profile k c.0 placed c.1 c.2 in
     let less : k < length t.entries =
     omega (arith, place_below (map length t.strategies) profile k placed, entries_counted t h) in
-    let named = get_or-map (λ (x : Entry). x.profile) t.entries k e profile less in
     let paid = get_or-map (λ (x : Entry). x.payoffs) t.entries k e row less in
-    (k, less, grind (arith, get_or_from_slice_get))
+    grind (arith, every_profile, place_found, get_or-map, get_or_from_slice_get)
 
 pub pays_there : (frame : Frame) (rs : List (List Ratio)) (profile : List ℕ) (k : ℕ)
     (row : List Ratio) → IsHeld frame rs → IsPlaced (map length frame.strategies) profile k
@@ -112,4 +99,4 @@ place_there frame rs profile place h found =
     grind (arith, entries_counted (table_with frame rs) h.is_table, length-map, place_below)
 
 pub ruleset places_found =
-    (as_many, length-map, place_below, player_before, strategy_in, strategy_fits)
+    (length-map, place_below, player_before, strategy_in, strategy_fits)

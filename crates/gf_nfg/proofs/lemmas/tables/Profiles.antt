@@ -56,8 +56,7 @@ profiles_in_order counts = places_are counts ∙ ap (numbers_from 0) (length-pro
 pub place_at : (counts : List ℕ) (i : ℕ) (d : List ℕ) → i < length (profiles counts)
     → place counts (get_or (profiles counts) i d) ≡ i
 place_at counts i d h =
-    let number = get_or-numbers_from 0 (length (profiles counts)) i 0 h in
-    grind (arith, places_are counts, get_or-map)
+    grind (arith, get_or-numbers_from 0 (length (profiles counts)) i 0 h, places_are, get_or-map)
 
 -- no profile stands twice
 pub profiles_distinct : (counts : List ℕ) (i j : ℕ) (d : List ℕ) → i < length (profiles counts)
@@ -73,11 +72,9 @@ profile_in (count ∷ counts) (s ∷ others) h =
     let r = profile_in counts others h.1 in
     let n = number_in 1 count s h.0.0 (omega (arith, h.0.1)) in
     let f = λ (i : ℕ). i ∷ others in
-    let g = flat_map (firsts count) in (
-      g r.0 ++ map f n.0,
-      map f n.1 ++ g r.1,
-      grind (arith, map-append, flat_map-append (firsts count) r.0 (others ∷ r.1), append_assoc),
-    )
+    let g = flat_map (firsts count) in
+    let parts = flat_map-append (firsts count) r.0 (others ∷ r.1) in
+    (g r.0 ++ map f n.0, map f n.1 ++ g r.1, grind (arith, map-append, append_assoc))
 profile_in counts profile h = absurd (grind arith)
 
 all_first : (count : ℕ) (counts others : List ℕ)

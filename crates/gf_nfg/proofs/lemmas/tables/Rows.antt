@@ -74,24 +74,14 @@ full_rows players count payoffs (k ∷ numbers) h =
 
 -- ---- rows that are kept
 
-width : (players number : ℕ) → number ≢ 0 → number * players - (number - 1) * players ≡ players
-width players zero some = absurd (some refl)
-width players (suc k) some = grind (arith, mul-suc)
-
 module _ (players count : ℕ) (payoffs zeros : List Ratio) (rs : List (List Ratio)) (number : ℕ)
     (full : AreFull players count payoffs) (view : zeros ∷ rows_of players count payoffs ≡ rs)
     (less : number < length rs) where
-  at_most : number ≤ count
-  at_most = grind (arith, length-rows_of)
-
-  pub row_within : number * players ≤ length payoffs
-  row_within = let fits = mul-le-mul_right players at_most in omega (arith, fits, full.full)
-
   pub row_there : number ≢ 0 → slice_get rs number ≡ Some
       (take (number * players - (number - 1) * players) (drop ((number - 1) * players) payoffs))
-  row_there some = grind (arith, get-rows_of, at_most, width)
+  row_there some = grind (arith, get-rows_of, mul-suc, length-rows_of)
 
-pub ruleset numbered = (full_in_turn, length-rows_of, row_there, row_within, rows_in_turn)
+pub ruleset numbered = (full_in_turn, length-rows_of, row_there, rows_in_turn)
 
 -- without players all rows are empty
 none_paid : (payoffs : List Ratio) (choices : List ℕ)
@@ -133,14 +123,12 @@ pub by_outcomes : (players count : ℕ) (payoffs : List Ratio) (choices : List �
 by_outcomes players count payoffs [] size h some chosen is = absurd (omega (arith, chosen))
 by_outcomes players count payoffs (k ∷ choices) size h some chosen is =
     let same : h.0 ≡ size / players = grind (arith, mul-div_cancel) in
+    let below = all_weaker (λ n. n ≤ h.0)
+    (λ n. n < length (no_pay players ∷ rows_of players h.0 payoffs))
+    (λ n less. grind (arith, length-rows_of)) (k ∷ choices) h.3 in
     rw (← same) (record {
       full = h.1;
-      numbered = record {
-        counted = grind (arith, length-map);
-        below = all_weaker (λ n. n ≤ h.0)
-            (λ n. n < length (no_pay players ∷ rows_of players h.0 payoffs))
-            (λ n less. grind (arith, length-rows_of)) (k ∷ choices) h.3;
-      };
+      numbered = record { counted = grind (arith, length-map); below = below };
       are = outcome_rows players h.0 payoffs (k ∷ choices) h.3;
     })
 
@@ -174,8 +162,7 @@ count_at_most (first ∷ others) zero h =
     let some = product_above_zero (map length others) (all_images (λ n. 0 < n) length others h.1) in
     grind (arith, mul-le-mul_left (length first) some)
 count_at_most (first ∷ others) (suc k) h =
-    let more = count_at_most others k h.1 in
-    grind (arith, mul-le-mul_right (product (map length others)) h.0)
+    grind (arith, mul-le-mul_right (product (map length others)) h.0, count_at_most others k h.1)
 
 pub own_count_within : (t : Table) (k : ℕ) → IsTable t → IsWithinLimit t
     → length (get_or t.strategies k []) ≤ profile_limit

@@ -1,5 +1,5 @@
 -- Tables that are the same are equal.
-use Rattle.gf_nfg.proofs.Common.{◌≡◌, ℕ, ◌<◌, List, [], length, map, get_or, sym, ap, ◌∙◌, arith}
+use Rattle.gf_nfg.proofs.Common.{◌≡◌, ℕ, ◌<◌, List, [], length, map, get_or, arith}
 use Rattle.gf_nfg.proofs.Common.{◌↔◌, Bool, IsTrue, Contains, length-map, get_or-map}
 use Rattle.gf_nfg.proofs.Common.{get_or_default, same_lists, Ratio, profiles, Entry, Table, IsTable}
 use Rattle.gf_nfg.proofs.Common.{rows, Frame, SamePlay, SameTable}
@@ -21,11 +21,8 @@ same_entries counts es fs p q pays = same_lists es fs (grind (arith, length-map)
     same k d h =
         let e = get_or es k d in
         let c = pays e (k, h, get_or_default es k e d h) in
-        let here = profile_at counts es k d p h in
-        let there = profile_at counts fs c.0 e q c.1 in
-        let place : k ≡ c.0 = profiles_distinct counts k c.0 [] here.0 there.0
-        (here.1 ∙ ap (λ (x : Entry). x.profile) (sym c.2) ∙ sym there.1) in
-        cc (get_or_default fs c.0 e d c.1, c.2)
+        let place : k ≡ c.0 = grind (arith, profile_at, profiles_distinct counts k c.0 []) in
+        grind (arith, get_or_default)
 
 -- each table pays what the other does: the same entries
 same_payoffs : (t u : Table) → IsTable t → IsTable u → SamePlay t u → t.entries ≡ u.entries

@@ -75,16 +75,12 @@ is_spellable tokens t all h =
           inner counts
       | inr lists ↦ label_lists_spelled t.strategies inner lists inside
     ] in
+    let labels = all_both IsLabel t.players (flat_map (λ ls. ls) t.strategies) heading.0
+    (all_joined IsLabel t.strategies names) in
+    let said = comment_spelled h.comment t.comment h.is_comment
+    (all_parts IsSpelled h.comment h.body more.1).0 in
     record {
-      labels_spelled = (
-        whole.1.1.1.0,
-        (
-          comment_spelled h.comment t.comment h.is_comment
-              (all_parts IsSpelled h.comment h.body more.1).0,
-          all_both IsLabel t.players (flat_map (λ ls. ls) t.strategies)
-              heading.0 (all_joined IsLabel t.strategies names),
-        ),
-      );
+      labels_spelled = (whole.1.1.1.0, (said, labels));
       payoffs_are_fractions = payoffs_spelled (length t.players) h.body (rows t) h.is_body;
     }
 

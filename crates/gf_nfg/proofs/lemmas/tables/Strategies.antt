@@ -34,11 +34,7 @@ pub next_group : {A B : Type 0} (f : A → B) (all all' : List (List B)) (sizes 
 next_group f all all' sizes items own i size start end h is stop cut m g =
     let left = drop start items in
     let part : end - start ≡ min size (length left) = omega (arith, length-drop start items) in
-    let first : map f own ≡ take size (map f left) =
-    cc (take_min size left, take-map f size left) in
-    let rest : map f (drop end items) ≡ drop size (map f left) =
-    grind (arith, drop-drop, drop_min, drop-map) in
-    grind (arith, append_assoc, drop_more, map, drop)
+    grind (arith, take_min, take-map, drop-drop, drop_min, drop-map, append_assoc, drop_more)
 
 -- ---- one of the lists
 
@@ -63,10 +59,8 @@ own_length {labels} {own} {start} {end} h = grind (arith, length-take, length-dr
 pub own_label : {labels own : List (List ℕ)} {start end k : ℕ} → IsOwn labels own start end
     → k < length own → (start + k < end) × (slice_get own k ≡ slice_get labels (start + k))
 own_label {labels} {own} {start} {end} {k} h less =
-    let size = own_length h in
     let taken = get_or-take (end - start) (drop start labels) k [] in
-    let dropped = get_or-drop start labels k [] in
-    grind (arith, slice_get-get_or own k [], slice_get-get_or labels (start + k) [])
+    grind (arith, get_or-drop, slice_get-get_or, own_length)
 
 pub has_list : (lists : List (List (List ℕ))) (at k : ℕ) → k < length (get_or lists at [])
     → at < length lists

@@ -30,13 +30,9 @@ ok_table t = Ok t
 abbrev tokens_in : List ℕ → List Token
 tokens_in bytes = map (λ l. l.token) (lex Gap 0 bytes)
 
-meant_by : (bytes : List ℕ) (t : Table) (o : Result Content Why) → run start (tokens_in bytes) ≡ o
-    → table_read o ≡ ok_table t → SpellsTable bytes t
-meant_by bytes t o read means = grind (arith, found, sentence_found)
-
 meant : (bytes : List ℕ) (t : Table) → table_read (run start (tokens_in bytes)) ≡ ok_table t
     → SpellsTable bytes t
-meant bytes t means = meant_by bytes t (run start (tokens_in bytes)) refl means
+meant bytes t means = grind (arith, found, sentence_found)
 
 pub by_counts : SpellsTable selten_by_counts selten
 unfolding lex digits index_of number_of lowest_of gcd_within

@@ -32,9 +32,7 @@ pub label_within : (lists : List (List (List ℕ))) (n k : ℕ) (label : List �
 label_within lists n k label found =
     let less = slice_get_within (get_or lists n []) k label found in
     let in_own = get_or-le-sum_by length (get_or lists n []) k [] less in
-    let own_in = get_or-le-sum_by (λ own. sum_by length own) lists n [] (has_list lists n k less) in
-    let is = get_or_from_slice_get (get_or lists n []) k label [] found in
-    omega (arith, rw is at in_own, own_in)
+    grind (arith, get_or-le-sum_by, has_list, get_or_from_slice_get)
 
 pub ruleset next_of_lists =
     (append_assoc, get_or_from_slice_get, label_next, length-append, list_ends, list_opens)

@@ -3,7 +3,7 @@ use Rattle.gf_nfg.proofs.Common.{◌≡◌, ℕ, List, [], ◌∷◌, ◌++◌, 
 use Rattle.gf_nfg.proofs.Common.{◌↔◌, codes, AllByRecursion, flat_map, IsLabel, Token, Text, Bare}
 use Rattle.gf_nfg.proofs.Common.{Each, braced, number_spelled, Ratio, IsFraction, written_is_read}
 use Rattle.gf_nfg.proofs.Common.{all_weaker, all_parts, all_lists, Table, IsTable, IsSpellable}
-use Rattle.gf_nfg.proofs.Common.{rows, IsLabelList, IsPayoff, IsPayoffBody, Sentence, row_text}
+use Rattle.gf_nfg.proofs.Common.{rows, IsLabelList, IsPayoffBody, Sentence, row_text}
 use Rattle.gf_nfg.proofs.Common.{list_text, quoted, table_text, SpellsTable, SameTable}
 use Rattle.gf_token.proofs.Offered.{each_group, Tells, both, each_field, empty, fields, label}
 use Rattle.gf_token.proofs.Offered.{labels, line, lines, list, says_list, says_word, word}
@@ -13,9 +13,6 @@ use Rattle.gf_nfg.proofs.lemmas.tables.Spelled.{spelled_is_spellable}
 use Rattle.gf_nfg.proofs.lemmas.tables.Same.{same_is_equal}
 
 -- ---- lists of labels
-
-abbrev names_text : List (List ℕ) → List ℕ
-names_text names = list_text (map quoted names)
 
 abbrev names_tokens : List (List ℕ) → List Token
 names_tokens names = braced (map Text names)
@@ -31,12 +28,9 @@ payoff_tokens r = Bare (number_text r) ∷ []
 abbrev row_tokens : List Ratio → List Token
 row_tokens row = flat_map payoff_tokens row
 
-is_payoff : (r : Ratio) → IsFraction r → IsPayoff (payoff_tokens r) r
-is_payoff r h = (number_text r, refl, written_is_read r h)
-
 is_rows : (rs : List (List Ratio)) → AllByRecursion (λ row. AllByRecursion IsFraction row) rs
     → IsPayoffBody (flat_map row_tokens rs) rs
-is_rows rs h = grind (arith, each_group, all_weaker, is_payoff)
+is_rows rs h = grind (arith, each_group, all_weaker, written_is_read)
 
 -- ---- the table
 
@@ -52,7 +46,8 @@ tells_table t h =
     let heading = fields (both (word (codes "NFG") (refl, (refl, (refl, tt))))
     (both (word (codes "1") (refl, tt)) (both (word (codes "R") (refl, tt))
     (both (label t.title spelled.0) (list (labels t.players names.0)))))) in
-    let strategies = list (each_field (λ own. AllByRecursion IsLabel own) names_text names_tokens
+    let strategies = list (each_field (λ own. AllByRecursion IsLabel own)
+    (λ own. list_text (map quoted own)) names_tokens
     (λ own is. says_list (labels own is)) t.strategies (all_lists IsLabel t.strategies names.1)) in
     let payoffs = each_field (λ row. AllByRecursion IsFraction row) row_text row_tokens
     (λ row is. line (each_field IsFraction number_text payoff_tokens
@@ -97,10 +92,7 @@ text_again bytes t u h k =
 pub equal_texts : (t u : Table) → IsTable t → IsSpellable t → IsTable u → IsSpellable u
     → (table_text t ≡ table_text u) ↔ SameTable t u
 equal_texts t u ht st hu su =
-    let mine = text_reads_back t ht st in
-    let other = text_reads_back u hu su in
-    let one = spells_one_table (table_text u) t u in
-    grind (arith, same_is_equal)
+    grind (arith, same_is_equal, text_reads_back, spells_one_table (table_text u) t u)
 
 pub equal_texts_of_files : (a b : List ℕ) (t u : Table) → SpellsTable a t → SpellsTable b u
     → (table_text t ≡ table_text u) ↔ SameTable t u

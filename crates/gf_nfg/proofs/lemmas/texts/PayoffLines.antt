@@ -11,15 +11,11 @@ use Rattle.gf_nfg.proofs.lemmas.tables.Same.{frame_in}
 
 -- ---- one payoff
 
-pub payoff_on : (width left : ℕ) (n : Ratio) (more : List Ratio) → 1 < left
-    → payoffs_text width left (n ∷ more) ≡ number_text n ++ 32 ∷ payoffs_text width (left - 1) more
-payoff_on width left n more h = rw (lt-ltb 1 left h) refl
-
 pub payoff_last : (width left : ℕ) (n : Ratio) (more : List Ratio) → left ≤ 1
     → payoffs_text width left (n ∷ more) ≡ number_text n ++ 10 ∷ payoffs_text width width more
 payoff_last width left n more h = grind (arith, nat_tests)
 
-pub ruleset payoff_written = (append_assoc, length-append, payoff_last, payoff_on)
+pub ruleset payoff_written = (append_assoc, length-append, payoff_last)
 
 -- ---- full rows
 
@@ -27,9 +23,8 @@ pub ruleset payoff_written = (append_assoc, length-append, payoff_last, payoff_o
 row_laid : (width : ℕ) (payoff : Ratio) (row payoffs : List Ratio)
     → payoffs_text width (length (payoff ∷ row)) ((payoff ∷ row) ++ payoffs)
     ≡ line_text (payoff ∷ row) ++ payoffs_text width width payoffs
+row_laid width payoff (next ∷ row) payoffs = grind (arith, append_assoc, row_laid width next row)
 row_laid width payoff [] payoffs = grind (arith, append_assoc)
-row_laid width payoff (next ∷ row) payoffs =
-    grind (arith, append_assoc, row_laid width next row payoffs)
 
 -- rows are lines
 pub rows_laid : (width : ℕ) (rs : List (List Ratio)) → AllByRecursion (λ row. 0 < length row) rs

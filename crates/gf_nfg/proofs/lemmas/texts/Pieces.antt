@@ -33,8 +33,7 @@ drop_from xs at x h =
 -- what was there before is kept if more was written, and then a call writes the rest or fails
 pub kept_through : {A E : Type 0} (r : Result A E) (old out new : List ℕ) → Keeps old out
     → OnErr r (Keeps out new) → OnErr r (Keeps old new)
-kept_through (Ok a) old out new kept h = tt
-kept_through (Err e) old out new kept h =
+kept_through r old out new kept h =
     grind (arith, length-take, take-append-le, take-append-drop (length out) new)
 
 -- what is still to come of names in braces

@@ -1,10 +1,9 @@
 -- Lines of rows that profiles share.
-use Rattle.gf_nfg.proofs.Common.{◌≡◌, ℕ, ◌+◌, ◌<◌, List, [], ◌∷◌, ◌++◌, length, map, drop, get_or}
-use Rattle.gf_nfg.proofs.Common.{append_assoc, at_drop_more, refl, arith, take, Some, slice_get}
-use Rattle.gf_nfg.proofs.Common.{length-append, AllByRecursion, get_or-map, length-map, map-append}
-use Rattle.gf_nfg.proofs.Common.{get_or_from_slice_get, Ratio, line_text, lines_with}
-use Rattle.gf_nfg.proofs.Common.{row_text, lines_text, subst, sym, Err, Ok, OnErr, Result, Keeps, ◌≤◌}
-use Rattle.gf_nfg.proofs.Common.{length-take}
+use Rattle.gf_nfg.proofs.Common.{get_or_from_slice_get, AllByRecursion, length-append, append_assoc}
+use Rattle.gf_nfg.proofs.Common.{at_drop_more, length-take, get_or-map, length-map, map-append, ◌≡◌}
+use Rattle.gf_nfg.proofs.Common.{lines_with, lines_text, slice_get, line_text, row_text, length, []}
+use Rattle.gf_nfg.proofs.Common.{get_or, Result, arith, Ratio, subst, OnErr, Keeps, List, ◌++◌, ◌+◌}
+use Rattle.gf_nfg.proofs.Common.{drop, refl, take, Some, ◌<◌, ◌∷◌, map, sym, Err, ◌≤◌, Ok, ℕ}
 use Rattle.std.specs.Prelude.{OnOk}
 use Rattle.gf_nfg.proofs.lemmas.tables.LabelLists.{one_taken_at}
 
@@ -21,8 +20,7 @@ pub ruleset lines_more = (line_more)
 -- a text grows, whether a line was written or only a part of it
 pub line_grows : {A E : Type 0} (r : Result A E) (old new line : List ℕ) → OnOk r (new ≡ old ++ line)
     → OnErr r (Keeps old new) → length old ≤ length new
-line_grows (Ok a) old new line whole kept = grind (arith, length-append)
-line_grows (Err e) old new line whole kept = grind (arith, length-take)
+line_grows r old new line whole kept = grind (arith, length-append, length-take)
 
 -- ---- chosen lines
 
@@ -34,14 +32,6 @@ chosen_next lines numbers at h = at_drop_more (lines_with lines) numbers at 0 h
 
 pub ruleset next_chosen = (append_assoc, chosen_next, get_or_from_slice_get, length-append)
 
--- each of these numbers is that of a line
-pub numbers_within : (rows : List (List Ratio)) (numbers : List ℕ)
-    → AllByRecursion (λ number. number < length rows) numbers
-    → AllByRecursion (λ number. number < length (map line_text rows)) numbers
-numbers_within rows numbers below =
-    subst (λ (n : ℕ). AllByRecursion (λ number. number < n) numbers)
-    (sym (length-map rows line_text)) below
-
 -- the lines of all profiles
 pub lines_chosen : (rows : List (List Ratio)) (numbers : List ℕ)
     → AllByRecursion (λ number. number < length rows) numbers
@@ -50,4 +40,4 @@ pub lines_chosen : (rows : List (List Ratio)) (numbers : List ℕ)
 lines_chosen rows [] h = refl
 lines_chosen rows (number ∷ numbers) h = grind (arith, get_or-map, lines_chosen rows numbers h.1)
 
-pub ruleset shared_lines = (lines_chosen, numbers_within)
+pub ruleset shared_lines = (length-map, lines_chosen)

@@ -4,8 +4,7 @@ use Common.{IsWithinLimit, content_with, heading_text, HasToldTable, SpellsTable
 use Common.{append-nil, all_weaker, IsComplete, content_of, lines_text, table_text, MeansTable, suc}
 use Common.{laid_lines, frame_in, table_of, named_by, frame_by, row_text, mul_comm, arith}
 use Common.{Content, rows_by, rows_of, AreLaid, HasText, Heading, Payoffs, length, Ratio, Table, []}
-use Common.{zero, Names, List, Outcomes, ◌++◌, refl, ◌*◌, ◌<◌, ◌∷◌, map, sym, ◌∙◌, ap, ℕ}
-use Rattle.gf_nfg.specs.inner.TextParts.{payoffs_text}
+use Common.{zero, Names, List, Outcomes, ◌++◌, refl, ◌*◌, ◌<◌, ◌∷◌, map, sym, ◌∙◌, ℕ}
 use Rattle.gf_nfg.specs.declared.text.ToldText.{ToldText}
 use Rattle.gf_nfg.proofs.lemmas.tables.Lists.{full_in_turn, no_counts, rows_in_turn}
 use Rattle.gf_nfg.proofs.lemmas.tables.Meaning.{rows-table_of}
@@ -22,8 +21,7 @@ laid_whole (suc k) n payoffs h one =
     let full = full_in_turn (suc k) n payoffs h in
     let some = all_weaker (λ row. length row ≡ suc k) (λ row. 0 < length row)
     (λ row is. omega (arith, is)) (rows_of (suc k) n payoffs) full in
-    ap (payoffs_text (suc k) (suc k)) (sym (rows_in_turn (suc k) n payoffs h))
-    ∙ rows_laid (suc k) (rows_of (suc k) n payoffs) some full
+    grind (arith, rows_in_turn (suc k) n payoffs h, rows_laid (suc k) _ some full)
 
 -- ---- the whole
 
@@ -49,15 +47,9 @@ pub payoffs_written : (bytes : List ℕ) (heading : Heading) (names : Names) (t 
     × (t.text.items ≡ table_text (named_by names u))
 payoffs_written bytes heading names t is h =
     let c = content_with heading h.payoffs h.numbers in
-    let x = h.holding in
-    let lines = lines_are c h.means.complete (h.unnumbered (sym x.version_is ∙ is)) in
-    let end = rw x.width_is at (lines_end (x.lines is)) in (
-      table_of c,
-      h.means.spelled,
-      h.means.within,
-      text_with names c t.text.items h.means.complete
-          (end ∙ ap (λ (bs : List ℕ). heading_text (frame_by names (frame_in c)) ++ bs) lines),
-    )
+    let lines = lines_are c h.means.complete (h.unnumbered (sym h.holding.version_is ∙ is)) in
+    let end = rw (h.holding.width_is, lines) at (lines_end (h.holding.lines is)) in
+    (table_of c, h.means.spelled, h.means.within, text_with names c _ h.means.complete end)
 
 -- in outcome version it ends before the lines
 pub record BeginsText (bytes : List ℕ) (names : Names) (c : Content) (text : List ℕ) : Type 0 where

@@ -1,8 +1,7 @@
 use Rattle.gf_nfg.proofs.Common.{◌∙◌, ap, Answer, content_told, arith}
-use Rattle.gf_nfg.proofs.lemmas.places.Judged.{answer_read, heard_begun}
+use Rattle.gf_nfg.proofs.lemmas.places.Judged.{answer_read, heard_begun, judged}
 use Rattle.gf_nfg.proofs.lemmas.tables.Meaning.{within_limit}
 use Rattle.gf_nfg.proofs.lemmas.tables.Told.{told_table}
-use Rattle.gf_nfg.proofs.lemmas.places.Judged.{judged}
 use Rattle.gf_nfg.proofs.read.tell_nfg.Goals as goal
 
 pub returns-clause-told : goal.returns-clause-told

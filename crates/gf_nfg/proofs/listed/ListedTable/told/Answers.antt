@@ -1,7 +1,6 @@
 use Rattle.gf_nfg.proofs.Common.{arith}
 use Rattle.std.proofs.lemmas.List.{nil_from_length}
 use Rattle.gf_nfg.proofs.lemmas.tables.Listed.{in_turn_listed, in_turn_means, lacking, parts_told}
-use Rattle.gf_nfg.proofs.lemmas.tables.Listed.{some_is}
 use Rattle.gf_nfg.proofs.listed.ListedTable.told.Goals as goal
 
 pub invariant_of-result : goal.invariant_of-result
@@ -17,4 +16,4 @@ returns-then-is_empty c = λ bytes h.
     in_turn_means _ _ _ h _ c.in_ok-frame.ensures none
 
 pub returns : goal.returns
-returns c = λ bytes h. grind (arith, parts_told _ _ _ h (some_is _ (grind arith)))
+returns c = λ bytes h. grind (arith, parts_told _ _ _ h)

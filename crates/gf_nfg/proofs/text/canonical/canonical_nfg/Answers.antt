@@ -1,5 +1,4 @@
-use Rattle.gf_nfg.proofs.Common.{◌∙◌, ◌++◌, List, ℕ, ap, map, refl, Memory, rows_by, table_of}
-use Rattle.gf_nfg.proofs.Common.{content_of, lines_text, row_text}
+use Rattle.gf_nfg.proofs.Common.{arith, refl, Memory, content_of, table_of}
 use Rattle.gf_nfg.proofs.lemmas.places.Judged.{memory_at_end}
 use Rattle.gf_nfg.proofs.lemmas.texts.Told.{outcomes_begin, payoffs_written, text_with}
 use Rattle.gf_nfg.proofs.text.canonical.canonical_nfg.Goals as goal
@@ -7,8 +6,7 @@ use Rattle.gf_nfg.proofs.text.canonical.canonical_nfg.Goals as goal
 pub returns-in-Payoffs-clause-text : goal.returns-in-Payoffs-clause-text
 returns-in-Payoffs-clause-text c =
     let told = rw c.new-text.ensures.names at c.in_ok-heading.ensures.told in
-    let h = payoffs_written _ _ c.args.names c.tell_nfg.new.to c.in-Payoffs.is told in
-    (h.0, h.1, h.2, c.of.ensures.rest ∙ h.3)
+    grind (arith, payoffs_written _ _ c.args.names c.tell_nfg.new.to c.in-Payoffs.is told)
 
 pub returns-in-Ok-clause-text : goal.returns-in-Ok-clause-text
 returns-in-Ok-clause-text c =
@@ -18,9 +16,7 @@ returns-in-Ok-clause-text c =
       table_of content,
       begun.means.spelled,
       begun.means.within,
-      text_with c.args.names content c.in-Ok.text.rest begun.means.complete
-          (c.in-Ok.ensures.rest ∙ ap (λ (bs : List ℕ). bs ++ lines_text
-          (map row_text (rows_by content content.choices))) begun.text_is),
+      grind (arith, text_with c.args.names content, begun.means.complete),
     )
 
 pub returns-clause-judged : goal.returns-clause-judged

@@ -1,4 +1,4 @@
-use Rattle.gf_nfg.proofs.Common.{arith, elements, common_steps}
+use Rattle.gf_nfg.proofs.Common.{arith, common_steps}
 use Rattle.gf_nfg.proofs.lemmas.texts.Pieces.{row_begun, row_written}
 use Rattle.gf_nfg.proofs.text.lines.write_lines.Goals as goal
 
@@ -10,9 +10,3 @@ loop-place-preserved c = record {
   kept = grind (arith, common_steps);
   room = omega (arith, c.in_ok-write_next.ensures.capacity, c.loop-place.invariant.room);
 }
-
-pub loop-place-init : goal.loop-place-init
-loop-place-init c = grind (arith, common_steps)
-
-pub returns-in_err-write_next : goal.returns-in_err-write_next
-returns-in_err-write_next c = grind (arith, elements)

@@ -10,12 +10,3 @@ loop-at-preserved c = (
 
 pub returns-clause-text : goal.returns-clause-text
 returns-clause-text c = grind (arith, names_closed)
-
-pub loop-at-init : goal.loop-at-init
-loop-at-init c = grind (arith, common_steps)
-
-pub returns-in_err-extend_from_slice : goal.returns-in_err-extend_from_slice
-returns-in_err-extend_from_slice c = grind (arith, common_steps)
-
-pub returns-in_err-push : goal.returns-in_err-push
-returns-in_err-push c = grind (arith, common_steps)

@@ -1,7 +1,0 @@
-use Rattle.gf_nfg.proofs.Common.{arith}
-use Rattle.gf_nfg.proofs.lemmas.tables.Pieces.{rises-push}
-use Rattle.gf_nfg.proofs.table.strategies.StrategyLists.push.Goals as goal
-
-pub invariant_of-self-2 : goal.invariant_of-self-2
-invariant_of-self-2 c =
-    grind (arith, rises-push 0 _ _ _ c.self.invariant c.extend-added.ensures.grown)
