@@ -1,11 +1,13 @@
 -- What was reported, and what failed.
 use Rattle.std.proofs.Common.{◌≡◌, ◌≢◌, Bool, List, ℕ, Result, Ok, Err, IsErrAnd, OnErr, OnOk, arith}
-use Rattle.std.proofs.Common.{inl, inr, refl}
-use Rattle.std.specs.Prelude.{⊤}
+use Rattle.std.proofs.Common.{inl, inr, refl, subst}
+use Rattle.std.specs.Prelude.{⊤, Option}
+use Rattle.std.specs.declared.io.Error.{Error}
 use Rattle.gf_run.specs.Streams.{Stream}
 use Rattle.gf_run.specs.Transfers.{IsWriteFault, IsWritten}
 use Rattle.gf_run.specs.declared.fault.RunFault.{RunFault}
 use Rattle.gf_run.specs.declared.fault.Which.{Which}
+use Rattle.gf_jobs.specs.Opening.{Opener, OpensBoth}
 use Rattle.gf_jobs.specs.Performs.{of_fault}
 use Rattle.gf_jobs.specs.inner.Causes.{without_cause}
 use Rattle.gf_jobs.specs.Reports.{IsSent}
@@ -25,6 +27,14 @@ pub unopened_one : {T : Type 0} (which : Which) (first second one : T)
 unopened_one Which.Only first second one is other = other (λ same. absurd cc)
 unopened_one Which.First first second one is other = other (λ same. absurd cc)
 unopened_one Which.Second first second one is other = is refl
+
+-- what is opened, by other spellings of the names
+pub opened_as : {I S : Type 0} (opener : Opener I S) (first second one other : Option (List ℕ)) (i i' : I)
+    (answer : Result (S × S) (Which × Error)) → first ≡ one → second ≡ other
+    → OpensBoth opener first second i answer i' → OpensBoth opener one other i answer i'
+opened_as opener first second one other i i' answer is are opens =
+    subst (λ second. OpensBoth opener one second i answer i') are
+    (subst (λ first. OpensBoth opener first second i answer i') is opens)
 
 -- a failure has this fault
 pub is_failed : (r : Result ⊤ Failed) (fault : RunFault)

@@ -13,7 +13,7 @@ use Rattle.gf_run.specs.declared.fault.Which.{Which}
 -- between the state, a path and what is there; `listed` between the state, the path of a folder, the
 -- names in it and whether these are all. Each of the others is between the state before, what is
 -- returned, and the state after; before what is returned come a file's name and, to replace it, the
--- text. `both` opens two inputs, the first and then the second: files of these names, or standard input.
+-- text. `both` is that of the call that opens two inputs: files of these names, or standard input.
 pub record Opener (I S : Type 0) : Type 1 where
   pub is_at : I → List ℕ → Found → Type 0
   pub listed : I → List ℕ → List (List ℕ) → Bool → Type 0
@@ -43,3 +43,19 @@ module _ {I S : Type 0} (opener : Opener I S) where
   OpensFile (CollectionFile.Input input) i None i' =
       (error : Error) × Opens (file_of input) i (Err error) i'
   OpensFile (CollectionFile.NotText name) i answer i' = (answer ≡ None) × (i' ≡ i)
+
+  -- opening two inputs, the first and then the second, gives both; or why one could not be opened
+  abbrev pub OpensInTurn : (first second : Option (List ℕ)) → I → Result (S × S) (Which × Error) → I
+      → Type 0
+  OpensInTurn first second i (Ok (s, t)) i' =
+      (mid : I) × Opens first i (Ok s) mid × Opens second mid (Ok t) i'
+  OpensInTurn first second i (Err (Which.First, error)) i' = Opens first i (Err error) i'
+  OpensInTurn first second i (Err (Which.Second, error)) i' =
+      (s : S) × (mid : I) × Opens first i (Ok s) mid × Opens second mid (Err error) i'
+  OpensInTurn first second i (Err (Which.Only, error)) i' = ⊥
+
+  -- the same by one call, so that neither is read before
+  abbrev pub OpensBoth : (first second : Option (List ℕ)) → I → Result (S × S) (Which × Error) → I
+      → Type 0
+  OpensBoth first second i answer i' =
+      opener.both i first second answer i' × OpensInTurn first second i answer i'

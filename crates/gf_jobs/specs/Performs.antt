@@ -21,7 +21,7 @@ use Rattle.gf_run.specs.Faults.{IsRefusal, answer_status, is_of_second}
 use Rattle.gf_run.specs.Transfers.{IsNotRead, IsReadWhole}
 use Rattle.gf_jobs.specs.LedTo.{AreFilesOf}
 use Rattle.gf_jobs.specs.Listed.{names_in}
-use Rattle.gf_jobs.specs.Opening.{Opener, Opens, OpensFile, file_named, file_of}
+use Rattle.gf_jobs.specs.Opening.{Opener, Opens, OpensBoth, OpensFile, file_named, file_of}
 use Rattle.gf_jobs.specs.Reports.{Ends, IsReported, IsSent, IsNamedReport, called, name_of}
 use Rattle.gf_run.specs.Run.{Reads, RunsTwo, Writes}
 use Rattle.gf_jobs.specs.Lines.{ReadsHash, RunsLine, RunsOne}
@@ -247,20 +247,20 @@ module _ {I S W E : Type 0} (opener : Opener I S) (reader : Stream S) (writer : 
       (Ends (IsReported errors (called (codes "<stdin>") input)) (λ done. 0))
       (CollectionFile.Input input)
 
-  -- two files are opened at once, before either is read
+  -- two files are opened by one call, the first and then the second, before either is read
   pub data PerformsTwo (map : Bool) (names : Names) (first second : List ℕ) (status : ℕ)
       (a b : World I W E) : Type 0 where
     -- one of them could not be opened, and nothing was asked of the output
     one_unopened : (which : Which) (error : Error)
-        → opener.both a.inputs (file_named first) (file_named second) (Err (which, error)) b.inputs
+        → OpensBoth opener (file_named first) (file_named second) a.inputs (Err (which, error)) b.inputs
         → b.output ≡ a.output
         → IsReported errors (of_fault {A = Bool} (Err (RunFault.Read which)) first second)
         (kept_at_first explain) (RunFault.Read which) status a.errors b.errors
         → PerformsTwo map names first second status a b
     -- they were, each once, and the run ended so
     both_opened : (s s' t t' : Kept S) (result : Result Bool RunFault)
-        → opener.both a.inputs (file_named first) (file_named second) (Ok (source_of s, source_of t))
-        b.inputs → bytes_kept s ≡ kept_at_first explain → bytes_kept t ≡ kept_at_first explain
+        → OpensBoth opener (file_named first) (file_named second) a.inputs
+        (Ok (source_of s, source_of t)) b.inputs → bytes_kept s ≡ kept_at_first explain → bytes_kept t ≡ kept_at_first explain
         → RunsTwo (kept_reader reader) (kept_reader reader) writer (IsAnswerBy map names) result
         s s' t t' a.output b.output
         → Ends (IsReported errors (of_fault result first second)) answer_status result

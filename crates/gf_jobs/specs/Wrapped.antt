@@ -47,20 +47,14 @@ abbrev pub remaining_of : {S F : Type 0} → (S → Option (List ℕ)) → (F �
 remaining_of standard file (Opened.Standard input) = standard input
 remaining_of standard file (Opened.File input) = file input
 
--- a file, which has a name, is opened as a file, and standard input as such
-abbrev pub IsOpenedAs : {S F : Type 0} → Option (List ℕ) → Counted (Opened S F) → Type 0
-IsOpenedAs {S = S} None opened = (input : S) × (inner_of opened ≡ Opened.Standard input)
-IsOpenedAs {F = F} (Some name) opened = (file : F) × (inner_of opened ≡ Opened.File file)
-
--- of what becomes of files, nothing is said
+-- standard input is opened as such, and a file as a file; of what becomes of files, nothing is said
 abbrev pub host_opener : {I S F : Type 0} → Opener I (Counted (Opened S F))
-host_opener = record {
+host_opener {S = S} {F = F} = record {
   is_at = λ _ _ _. Unit {0};
   listed = λ _ _ _ _. Unit {0};
-  standard = λ _ opened _. IsOpenedAs None opened;
-  file = λ _ name answer _. IfOk answer (IsOpenedAs (Some name));
-  both = λ _ first second answer _. IfOk answer
-      (λ opened. IsOpenedAs first opened.0 × IsOpenedAs second opened.1);
+  standard = λ _ opened _. (input : S) × (inner_of opened ≡ Opened.Standard input);
+  file = λ _ _ answer _. IfOk answer (λ opened. (file : F) × (inner_of opened ≡ Opened.File file));
+  both = λ _ _ _ _ _. Unit {0};
   replaced = λ _ _ _ _ _. Unit {0};
 }
 

@@ -21,7 +21,7 @@ use std::alloc::Global;
 /// - `Check`: `run_check`.
 /// - `Table`: `run_table`, or `run_table_reduced`.
 /// - `Same`: `run_same_map` if `map` is true, otherwise `run_same`, or `run_same_by` with names aside.
-///   Both files are opened before either is read.
+///   The first file is opened, and then the second, before either is read.
 /// - `CheckCanon`, `CheckAll`, `Hash`: `run_line` for each of the files, as `run_lines` says.
 /// - `WriteCanon`: `run_rewrites`.
 /// - `Duplicates`: `run_duplicates`.

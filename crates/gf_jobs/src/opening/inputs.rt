@@ -5,7 +5,7 @@ ghost use Rattle.std.specs.declared.io.Error.{Error};
 ghost use Rattle.gf_run.specs.declared.fault.RunFault.{RunFault};
 ghost use Rattle.gf_run.specs.declared.fault.Which.{Which};
 ghost use Rattle.gf_jobs.specs.Wrapped.{bytes_kept, kept_at_first, source_of};
-ghost use Rattle.gf_jobs.specs.Opening.{Opener, Opens, file_named, file_of};
+ghost use Rattle.gf_jobs.specs.Opening.{Opener, Opens, OpensBoth, file_named, file_of};
 
 use crate::explain::{Cause, Failed, unread};
 use crate::opening::kept::Kept;
@@ -69,8 +69,8 @@ pub trait Inputs {
         first: Option<&str>,
         second: Option<&str>,
     ) -> Result<(Self::Opened, Self::Opened), (Which, io::Error)>
-        ensures { opener.both self.old (option_map (λ name. name.now) first.entry)
-            (option_map (λ name. name.now) second.entry) result self.new };
+        ensures { OpensBoth opener (option_map (λ name. name.now) first.entry)
+            (option_map (λ name. name.now) second.entry) self.old result self.new };
 
     /// Puts a text in the place of the file of this name. After an error the file is as it was; the
     /// error is of the kind `OutOfMemory` if memory ran out.

@@ -1,7 +1,8 @@
 //! The inputs of the program: standard input, and files.
 
-ghost use Rattle.std.specs.Prelude.{IfOk, option_map};
-ghost use Rattle.gf_jobs.specs.Wrapped.{IsOpenedAs, host_opener, remaining_of};
+ghost use Rattle.std.specs.Prelude.{option_map};
+ghost use Rattle.gf_jobs.specs.Opening.{Opens};
+ghost use Rattle.gf_jobs.specs.Wrapped.{host_opener, remaining_of};
 
 use crate::opening::inputs::{Found, Inputs, Listing};
 use crate::opening::list::push_names;
@@ -54,7 +55,8 @@ impl<'a> HostInputs<'a> {
 
     /// Opens the file of this name, or standard input.
     fn open_one(&mut self, name: Option<&str>) -> Result<HostInput, io::Error>
-        ensures { IfOk result (IsOpenedAs (option_map (λ name. name.now) name.entry)) }
+        ensures { Opens host_opener (option_map (λ name. name.now) name.entry)
+            self.old result self.new }
     {
         match name {
             None => Ok(self.standard()),
@@ -120,11 +122,14 @@ impl Inputs for HostInputs<'_> {
         first: Option<&str>,
         second: Option<&str>,
     ) -> Result<(HostInput, HostInput), (Which, io::Error)> {
-        let first = self.open_one(first).map_err(|error| (Which::First, error))?;
-        let second = self
-            .open_one(second)
-            .map_err(|error| (Which::Second, error))?;
-        Ok((first, second))
+        let first = match self.open_one(first) {
+            Ok(first) => first,
+            Err(error) => return Err((Which::First, error)),
+        };
+        match self.open_one(second) {
+            Ok(second) => Ok((first, second)),
+            Err(error) => Err((Which::Second, error)),
+        }
     }
 
     fn replace(&mut self, name: &str, text: TextPieces) -> Result<(), io::Error> {

@@ -1,12 +1,13 @@
 use Rattle.std.proofs.Common.{arith, refl}
 use Rattle.gf_jobs.specs.Performs.{both_opened, one_unopened}
-use Rattle.gf_jobs.proofs.Reported.{unopened_one}
+use Rattle.gf_jobs.proofs.Reported.{opened_as, unopened_one}
 use Rattle.gf_jobs.proofs.jobs.session.Session.perform_same.Goals as goal
 use Rattle.gf_jobs.proofs.jobs.session.Session.perform_same.Goals.{else-eq, then-eq}
 
 pub returns-in-Err-clause-performed : goal.returns-in-Err-clause-performed
 returns-in-Err-clause-performed g c =
-    let opens = rw (c.file_named.ensures, c.file_named-2.ensures) at c.in-Err.ensures in
+    let opens = opened_as g.I.Inputs.opener _ _ _ _ _ _ _ c.file_named.ensures c.file_named-2.ensures
+    c.in-Err.ensures in
     let name = unopened_one c.in-Err.which c.args.a.now c.args.b.now c.if-eq.name.now
     (λ is. elim c.if-eq.branch [
       | then-eq w ↦ grind (arith, w.name-is)
