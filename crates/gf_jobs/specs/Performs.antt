@@ -94,7 +94,7 @@ Stays status a b = (status ≡ 0) × (b ≡ a)
 
 -- ---- a text in the place of each file
 
--- the fault of a file whose text could not be put in its place
+-- the fault of a file whose text could not be put in its place, by the error of the system
 abbrev pub IsUnreplaced : Error → RunFault → Type 0
 IsUnreplaced error fault = (error_kind error ≡ ErrorKind.OutOfMemory → fault ≡ RunFault.Memory)
     × (error_kind error ≢ ErrorKind.OutOfMemory → fault ≡ RunFault.Write)
