@@ -300,9 +300,12 @@ END
     rm "$scratch/late.efg"
 }
 
-# Drops the counts after the first, which are shown too if the other files take long.
-drop_later_counts() {
-    sed -E -i $'s/\r\e\\[K[2-9] of [0-9]+ files//g' "$scratch/err"
+# Drops the counts after the first, which are shown too if the other files take long, but each only once.
+drop_later_counts() { # FILES
+    local count
+    for ((count = 2; count <= $1; count++)); do
+        sed -i -z $'s/\r\e\\[K'"$count of $1 files//" "$scratch/err"
+    done
 }
 
 # A terminal is told how many files are done, and keeps the lines of faults alone.
@@ -313,21 +316,21 @@ check_progress() {
         hash_of "$scratch/five.efg" "$scratch/five.efg"
     } >"$scratch/lines"
     run_at_terminal piped "$scratch/five.efg" hash "${files[@]}"
-    drop_later_counts
+    drop_later_counts 3
     printf '%s1 of 3 files%s%s: E4 at 26..29\n%s' "$erase" "$erase" "$scratch/refused.nfg" "$erase" >"$scratch/expected"
     judge "progress at a terminal" "$scratch/lines" "$scratch/expected" 2
     run_at_terminal piped "$scratch/five.efg" hash --quiet "${files[@]}"
     echo "$scratch/refused.nfg: E4 at 26..29" >"$scratch/expected"
     judge "progress with --quiet" "$scratch/lines" "$scratch/expected" 2
     run_at_terminal there "$scratch/five.efg" hash "${files[0]}" "${files[2]}"
-    drop_later_counts
+    drop_later_counts 2
     {
         printf '%s' "$erase" && head -n 1 "$scratch/lines"
         printf '%s1 of 2 files%s' "$erase" "$erase" && tail -n 1 "$scratch/lines" && printf '%s' "$erase"
     } >"$scratch/expected"
     judge "progress at a terminal that has the output" "$nothing" "$scratch/expected" 0
     run_at_terminal piped "$scratch/five.efg" duplicates "${files[@]}"
-    drop_later_counts
+    drop_later_counts 3
     printf '%s\n' "$scratch/late.efg" "$scratch/five.efg" >"$scratch/lines"
     printf '%s1 of 3 files%s%s: E4 at 26..29\n%s' "$erase" "$erase" "$scratch/refused.nfg" "$erase" >"$scratch/expected"
     judge "progress of duplicates" "$scratch/lines" "$scratch/expected" 2
@@ -358,7 +361,7 @@ check_progress_of_folder() {
             # (no option is no word)
             # shellcheck disable=SC2086
             run_at_terminal piped "$scratch/text.efg" $command $quiet "$scratch/late.efg" "$folder"
-            [[ $quiet ]] || drop_later_counts
+            [[ $quiet ]] || drop_later_counts 3
             judge "progress of $command ${quiet:-without --quiet}" "$scratch/lines" "$scratch/expected" 2
         done
     done

@@ -199,7 +199,7 @@ check_together() { # COMMAND OPTION..
     fi
     if has quiet || has shown; then
         run_at_terminal piped "$scratch/untitled.efg" "$command" "${words[@]}"
-        ! has shown || drop_later_counts
+        ! has shown || drop_later_counts ${#files[@]}
     else
         run "$command" "${words[@]}"
     fi

@@ -53,7 +53,8 @@ check_form() { # NAME TREE FORM-LINES WORD..
 
 # Worked trees and their forms, by all strategies and by the reduced ones.
 check_forms() {
-    local words head='NFG 1 R "s" { "A" }\n'
+    local words head='NFG 1 R "s" { "A" }\n' ending='EFG 2 R "s" { "A" } p "" 1 1 "i" { "a" "b" } 0
+        t "" 1 "x" { 1 } p "" 1 2 "j" { "c" "d" } 0 t "" 2 "y" { 2 } t "" 3 "z" { 3 }'
     for words in table "table --reduced"; do
         # shellcheck disable=SC2086
         {
@@ -68,8 +69,9 @@ check_forms() {
                 "$head"'{ { "1-1" "1-2" "2-1" "2-2" } }\n""\n\n0\n0\n0\n0\n' $words
         }
     done
-    check_form "table --reduced of an ending" 'EFG 2 R "s" { "A" } p "" 1 1 "i" { "a" "b" } 0 t "" 1 "x" { 1 }
-        p "" 1 2 "j" { "c" "d" } 0 t "" 2 "y" { 2 } t "" 3 "z" { 3 }' \
+    check_form "table of an ending" "$ending" \
+        "$head"'{ { "1-1" "1-2" "2-1" "2-2" } }\n""\n\n1\n1\n2\n3\n' table
+    check_form "table --reduced of an ending" "$ending" \
         "$head"'{ { "1-*" "2-1" "2-2" } }\n""\n\n1\n2\n3\n' table --reduced
 }
 
