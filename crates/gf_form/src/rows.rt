@@ -9,7 +9,6 @@ pub(crate) mod merge;
 pub(crate) mod paid_nodes;
 pub(crate) mod pairs;
 pub(crate) mod paths;
-pub(crate) mod paying;
 pub(crate) mod profile;
 pub(crate) mod share;
 pub(crate) mod summed;

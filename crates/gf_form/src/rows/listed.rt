@@ -1,17 +1,18 @@
 //! The terms of the nodes that choices can reach.
 
-ghost use Rattle.std.specs.Prelude.{◌≡◌, ◌<◌, ◌≤◌, ℕ, IfOk, IfSome, IsTrue, OnOk, get_or, length};
-ghost use Rattle.std.specs.Prelude.{map};
+ghost use Rattle.std.specs.Prelude.{◌≡◌, ◌<◌, ◌≤◌, ◌++◌, ℕ, List, IfOk, IfSome, IsTrue, OnOk};
+ghost use Rattle.std.specs.Prelude.{get_or, length, map, pos};
 ghost use Rattle.gf_fraction.specs.Ratio.{IsWithin};
+ghost use Rattle.std.specs.List.{AllByRecursion};
 ghost use Rattle.std.specs.List.Sorted.{IsNonDecreasingBy};
 ghost use Rattle.gf_tree.specs.Game.{Game};
-ghost use Rattle.gf_form.specs.inner.rows.TermLists.{AreOrdered, IsShaped, all_terms};
+ghost use Rattle.gf_form.specs.inner.rows.TermLists.{AreAlike, AreInOrder, EndsBelow, IsShaped};
+ghost use Rattle.gf_form.specs.inner.rows.TermLists.{all_terms};
 ghost use Rattle.gf_form.specs.inner.rows.KeptNodes.{paid_reached};
-ghost use Rattle.gf_form.specs.inner.rows.ListedNodes.{AreTermsOf, HasShares, IsShareAt};
-ghost use Rattle.gf_form.specs.inner.rows.ListedNodes.{IsTermMore};
+ghost use Rattle.gf_form.specs.inner.rows.ListedNodes.{HasShares, IsShareAt, IsTermMore};
 ghost use Rattle.gf_form.specs.inner.rows.ItemRows.{HasRow};
 ghost use Rattle.gf_form.specs.inner.values.PaidRows.{rows_of};
-ghost use Rattle.gf_form.specs.inner.rows.Paying.{FitOver};
+ghost use Rattle.gf_form.specs.inner.rows.Paying.{AreFitting, AreListed};
 ghost use Rattle.gf_form.specs.inner.values.Rows.{ArePaid};
 ghost use Rattle.gf_form.specs.Strategies.{choices_by};
 ghost use Rattle.gf_form.specs.declared.rows.paths.Path.{Path};
@@ -139,43 +140,96 @@ fn alike_end(nodes: &[Path], start: usize) -> usize
     end
 }
 
-impl Terms {
-    /// Whether all are over this denominator, and fit together.
-    pub(crate) fn fit_over(&self, den: u128) -> bool
-        ensures { IsTrue result → FitOver den (all_terms self.now) }
-    {
-        if den == 0 || den > LARGEST {
-            return false;
-        }
-        let mut size: u128 = 0;
-        for place in 0..self.demands.len() {
-            let head = self.head(place);
-            let Some(sum) = size.checked_add(head.size) else {
-                return false;
-            };
-            if head.den != den || sum > LARGEST {
-                return false;
-            }
-            size = sum;
-        }
-        true
-    }
+/// Whether all numbers are zero.
+fn are_zero(numbers: &[i128]) -> bool
+    ensures { IsTrue result → (k : ℕ) → get_or numbers.now k (pos 0) ≡ pos 0 }
+{
+    numbers.iter().all(|number| *number == 0)
 }
 
-/// The terms of nodes in order of demands: over this denominator if it serves, or if there is none,
-/// each over the least that serves it.
+/// Appends the term of nodes that have these demands, over the denominator of the others and without
+/// its size, unless it adds nothing. Returns what the sizes come to, with that of the others; `None`
+/// if the terms do not fit together.
+fn push_fitting(
+    terms: &mut Terms,
+    demands: u64,
+    nodes: &[Path],
+    payoffs: &Payoffs<'_>,
+    size: u128,
+) -> Result<Option<u128>, AllocError>
+    requires order { AreInOrder terms.old }
+    requires ends { EndsBelow terms.old.demands.items demands }
+    requires alike { AllByRecursion (λ (r : Path). r.demands ≡ demands) nodes.now }
+    ensures fitting { IfOk result (λ more. IfSome more (λ more. (rs : List Path)
+        → AreFitting (rows_of payoffs.now) rs size terms.old
+        → AreFitting (rows_of payoffs.now) (rs ++ nodes.now) more terms.new)) }
+    ensures ends { OnOk result (EndsBelow terms.new.demands.items demands) }
+    ensures alike { AreAlike terms.new terms.old }
+{
+    let before = terms.numbers.len();
+    let over = push_shares(&mut terms.numbers, nodes, payoffs, terms.players, terms.den)?;
+    let Some(more) = size.checked_add(over.size) else {
+        return Ok(None);
+    };
+    if over.den != terms.den || more > LARGEST {
+        return Ok(None);
+    }
+    if are_zero(&terms.numbers[before..]) {
+        terms.numbers.truncate(before);
+        return Ok(Some(more));
+    }
+    terms.push_head(Head {
+        demands,
+        den: over.den,
+        size: 0,
+    })?;
+    Ok(Some(more))
+}
+
+/// The terms of nodes in order of demands that add something, over this denominator, so that they
+/// are quick to add; `None` if they do not fit together.
 fn listed_over(
     alloc: Global,
     nodes: &[Path],
     payoffs: &Payoffs<'_>,
     players: usize,
-    common: Option<u128>,
+    den: u128,
+) -> Result<Option<Terms>, AllocError>
+    requires { IsNonDecreasingBy (λ (r : Path). r.demands) nodes.now }
+    ensures listed { IfOk result (λ found. IfSome found (λ terms.
+        AreListed (rows_of payoffs.now) players nodes.now (all_terms terms))) }
+    ensures order { IfOk result (λ found. IfSome found AreInOrder) }
+    ensures players { IfOk result (λ found. IfSome found (λ terms. terms.players ≡ players)) }
+{
+    if den == 0 || den > LARGEST {
+        return Ok(None);
+    }
+    let mut terms = Terms::new(alloc, players, den);
+    let mut size = 0;
+    let mut start = 0;
+    while start < nodes.len() {
+        let end = alike_end(nodes, start);
+        let alike = &nodes[start..end];
+        match push_fitting(&mut terms, nodes[start].demands, alike, payoffs, size)? {
+            Some(more) => size = more,
+            None => return Ok(None),
+        }
+        start = end;
+    }
+    Ok(Some(terms))
+}
+
+/// The terms of nodes in order of demands, each over the least denominator that serves it.
+fn listed_apart(
+    alloc: Global,
+    nodes: &[Path],
+    payoffs: &Payoffs<'_>,
+    players: usize,
 ) -> Result<Terms, AllocError>
     requires { IsNonDecreasingBy (λ (r : Path). r.demands) nodes.now }
-    ensures terms { IfOk result (λ terms. (g : Game) → ArePaid g (rows_of payoffs.now)
-        → AreTermsOf g players nodes.now (all_terms terms)) }
-    ensures ordered { IfOk result (λ terms. AreOrdered terms) }
-    ensures shaped { IfOk result (λ terms. IsShaped terms) }
+    ensures listed { IfOk result
+        (λ terms. AreListed (rows_of payoffs.now) players nodes.now (all_terms terms)) }
+    ensures order { IfOk result AreInOrder }
     ensures players { IfOk result (λ terms. terms.players ≡ players) }
 {
     let mut terms = Terms::new(alloc, players, 0);
@@ -183,18 +237,14 @@ fn listed_over(
     while start < nodes.len() {
         let end = alike_end(nodes, start);
         let alike = &nodes[start..end];
-        let den = match common {
-            Some(den) => den,
-            None => common_denominator(alike, payoffs).unwrap_or(0),
-        };
+        let den = common_denominator(alike, payoffs).unwrap_or(0);
         push_nodes(&mut terms, nodes[start].demands, alike, payoffs, den)?;
         start = end;
     }
     Ok(terms)
 }
 
-/// The terms of nodes in order of demands: over one denominator if they fit together, so that they
-/// are quick to add.
+/// The terms of nodes in order of demands: over one denominator if they fit together.
 fn listed(
     alloc: Global,
     nodes: &[Path],
@@ -202,19 +252,17 @@ fn listed(
     players: usize,
 ) -> Result<Terms, AllocError>
     requires { IsNonDecreasingBy (λ (r : Path). r.demands) nodes.now }
-    ensures terms { IfOk result (λ terms. (g : Game) → ArePaid g (rows_of payoffs.now)
-        → AreTermsOf g players nodes.now (all_terms terms)) }
-    ensures ordered { IfOk result (λ terms. AreOrdered terms) }
-    ensures shaped { IfOk result (λ terms. IsShaped terms) }
+    ensures listed { IfOk result
+        (λ terms. AreListed (rows_of payoffs.now) players nodes.now (all_terms terms)) }
+    ensures order { IfOk result AreInOrder }
     ensures players { IfOk result (λ terms. terms.players ≡ players) }
 {
     if let Some(common) = common_denominator(nodes, payoffs) {
-        let terms = listed_over(alloc, nodes, payoffs, players, Some(common))?;
-        if terms.fit_over(common) {
+        if let Some(terms) = listed_over(alloc, nodes, payoffs, players, common)? {
             return Ok(terms);
         }
     }
-    listed_over(alloc, nodes, payoffs, players, None)
+    listed_apart(alloc, nodes, payoffs, players)
 }
 
 /// The terms of a game.
@@ -224,12 +272,10 @@ pub(crate) fn game_terms(
     digits: &Digits,
     payoffs: &Payoffs<'_>,
 ) -> Result<Terms, AllocError>
-    requires payoffs { ArePaid game.now (rows_of payoffs.now) }
-    ensures terms { IfOk result (λ terms. AreTermsOf game.now (length game.now.players)
-        (paid_reached (rows_of payoffs.now) game.now
+    ensures listed { IfOk result (λ terms. AreListed (rows_of payoffs.now)
+        (length game.now.players) (paid_reached (rows_of payoffs.now) game.now
         (choices_by game.now (map (λ own. own.items) digits.now.steps.items))) (all_terms terms)) }
-    ensures ordered { IfOk result (λ terms. AreOrdered terms) }
-    ensures shaped { IfOk result (λ terms. IsShaped terms) }
+    ensures order { IfOk result AreInOrder }
     ensures players { IfOk result (λ terms. terms.players ≡ length game.now.players) }
 {
     let players = game.players().len();

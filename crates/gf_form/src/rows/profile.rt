@@ -66,8 +66,7 @@ pub(crate) fn profile_rows(
         are_places: are_places(numbers),
     };
     let mut written = Written::new(alloc, profiles, players)?;
-    let listed = game_terms(alloc, game, &digits, &payoffs)?;
-    let terms = listed.paying(alloc)?;
+    let terms = game_terms(alloc, game, &digits, &payoffs)?;
     let run = Run {
         first: 0,
         count: counts.profiles.count,

@@ -2,7 +2,7 @@
 -- terms while they are merged by the code, and terms that are appended in turn.
 use Rattle.gf_form.proofs.Common
 use Common.{IsNonDecreasingBy-push, fits_signed_from_abs, get_or-append_seam, get_or_append_left, ℕ}
-use Common.{drop-append_seam, mul-le-mul_right, take-append-drop, AllByRecursion, drop-append-le, ℤ}
+use Common.{take-append_seam, take_all, drop-append_seam, mul-le-mul_right, take-append-drop, AllByRecursion, drop-append-le, ℤ}
 use Common.{length-take-le, take-append-le, get_or_default, length-append, first_terms, get_or_past}
 use Common.{get_or_push, length-drop, take-length, get_or-take, length-take, append-nil, map-append}
 use Common.{AreOrdered, ComeAsWell, all_terms, number_at, to_z-of_z, AreChosen, AreMerged, IsFactor}
@@ -10,7 +10,7 @@ use Common.{EndsBelow, drop-cons, drop-drop, IsShaped, IsWithin, cases_lt, div_s
 use Common.{take-suc, AreAlike, IsNoted, IsScale, IsSumAt, IsSumOf, no_term, term_at, zero-*ℤ, List}
 use Common.{add-one, lowered, Scaled, get_or, length, Chosen, HasSum, Scale, Terms, arith, rules}
 use Common.{subst, Term, of_z, refl, take, to_z, w128, zero, ◌*ℤ◌, ◌++◌, ◌+ℤ◌, drop, part, []}
-use Common.{map, pos, suc, sym, ◌*◌, ◌+◌, ◌<◌, ◌∙◌, ◌∷◌, ◌≡◌, ◌≤◌, ◌-◌, ap}
+use Common.{map, pos, suc, sym, ◌*◌, ◌+◌, ◌<◌, ◌∙◌, ◌∷◌, ◌≡◌, ◌≤◌, ◌-◌, ap, Global, Vec}
 use Rattle.std.proofs.lemmas.List.{append_assoc, get_or-drop, take_rest, take_more}
 use Rattle.gf_form.specs.inner.rows.ItemRows.{HasRow}
 use Rattle.std.proofs.lemmas.List.Sorted.{IsNonDecreasingBy-short}
@@ -93,6 +93,22 @@ same_first : (to after : Terms) (n : ℕ) → ((k : ℕ) → k < n → term_at a
 same_first to after zero each = refl
 same_first to after (suc n) each =
     rw (each n (omega arith), same_first to after n (λ k less. each k (omega arith))) refl
+
+-- what is left of numbers without those that were appended, and these
+pub cut_at : (old row all : List ℤ) (n : ℕ) → all ≡ old ++ row → n ≡ length old
+    → (take n all ≡ old) × (take (length all - n) (drop n all) ≡ row)
+cut_at old row all n is at =
+    let past : drop n all ≡ row = rw (is, at) (drop-append_seam old row) in
+    let size : length all ≡ n + length row = rw (is, at) (length-append old row) in (
+      rw (is, at) (take-append_seam old row),
+      rw past (take_all _ row (omega (arith, size))),
+    )
+
+-- the terms do not depend on the room for their numbers
+pub same_terms : (t : Terms) (numbers : Vec ℤ Global) → numbers.items ≡ t.numbers.items
+    → all_terms (record t { numbers = numbers }) ≡ all_terms t
+same_terms t numbers same =
+    same_first t (record t { numbers = numbers }) (length t.demands.items) (λ k less. rw same refl)
 
 module _ (to after : Terms) (e : Term) (shaped : IsShaped to)
     (one_each : length e.row ≡ to.players) (players : after.players ≡ to.players)

@@ -77,7 +77,7 @@ nodes_told g k den steps choices rs e alike says exact =
 
 -- ---- lists of them
 
-nodes_more : (g : Game) (players : ℕ) (rs group : List Path) (es : List Term) (e : Term)
+pub nodes_more : (g : Game) (players : ℕ) (rs group : List Path) (es : List Term) (e : Term)
     → AllByRecursion (λ (r : Path). r.demands ≡ e.head.demands) group
     → (0 < e.head.den → (k : ℕ) → k < players
     → HasShares g group k e.head.den e.head.size (number_at (suc k) e))
@@ -106,50 +106,48 @@ pub record Listing (rows : List (List Ratio)) (players : ℕ) (rs : List Path) (
   pub shaped : IsShaped terms
   pub players_are : terms.players ≡ players
 
-module _ (rows : List (List Ratio)) (players : ℕ) (rs : List Path)
-    (sorted : IsNonDecreasingBy (λ (r : Path). r.demands) rs) (at end : ℕ)
+module _ (rs : List Path) (sorted : IsNonDecreasingBy (λ (r : Path). r.demands) rs) (at end : ℕ)
     (less : at < length rs) (onward : at < end) (within : end ≤ length rs)
-    (alike : (d : Path) (k : ℕ) → at ≤ k → k < end
+    (same : (d : Path) (k : ℕ) → at ≤ k → k < end
     → (get_or rs k d).demands ≡ (get_or rs at d).demands) (demands : ℕ)
-    (is : demands ≡ (node_at rs at).demands) (old new : Terms)
-    (before : Listing rows players rs at old)
-    (more : IsTermMore rows demands (take (end - at) (drop at rs)) old new) where
+    (is : demands ≡ (node_at rs at).demands) where
   abbrev group : List Path
   group = take (end - at) (drop at rs)
 
-  joined : take end rs ≡ take at rs ++ group
+  pub joined : take end rs ≡ take at rs ++ group
   joined =
       let whole : end ≡ at + (end - at) = omega (arith, onward) in
       ap (λ (n : ℕ). take n rs) whole ∙ take-add at (end - at) rs
 
-  all_alike : AllByRecursion (λ (r : Path). r.demands ≡ more.term.head.demands) group
+  pub all_alike : AllByRecursion (λ (r : Path). r.demands ≡ demands) group
   all_alike =
-      all_in (λ (r : Path). r.demands ≡ more.term.head.demands) no_node rs (end - at) at
+      all_in (λ (r : Path). r.demands ≡ demands) no_node rs (end - at) at
       (omega (arith, onward, within))
-      (λ k from to. alike no_node k from (omega (arith, to, onward)) ∙ sym is
-      ∙ sym more.demands_are)
+      (λ k from to. same no_node k from (omega (arith, to, onward)) ∙ sym is)
 
-  rises : (d : Path) → end < length rs
-      → more.term.head.demands ≤ (get_or rs end d).demands
+  pub rises : (d : Path) → end < length rs → demands ≤ (get_or rs end d).demands
   rises d there = grind (arith, get_or_default)
 
-  pub nodes_listed : IsShaped new → new.players ≡ old.players
-      → Listing rows players rs end new
-  nodes_listed shaped same = record {
-    told = λ g are. subst (λ (ns : List Path). AreTermsOf g players ns (all_terms new))
-        (sym joined)
-        (subst (AreTermsOf g players (take at rs ++ group)) (sym more.is)
-        (nodes_more g players (take at rs) group (all_terms old) more.term all_alike
-        (λ above k there. more.says k (omega (arith, there, before.players_are)) above g are)
-        (before.told g are)));
-    ordered = ordered_more old new more.term more.is before.ordered
-        (λ d some. let le = before.next no_node less d some in
-        omega (arith, le, is, more.demands_are));
-    next = λ d there.
-        below_more old new more.term more.is (get_or rs end d).demands (rises d there);
-    shaped = shaped;
-    players_are = same ∙ before.players_are;
-  }
+  pub nodes_listed : (rows : List (List Ratio)) (players : ℕ) (old new : Terms)
+      → Listing rows players rs at old → IsTermMore rows demands group old new
+      → IsShaped new → new.players ≡ old.players → Listing rows players rs end new
+  nodes_listed rows players old new before more shaped as_many =
+      let e = more.term in record {
+        told = λ g are. subst (λ (ns : List Path). AreTermsOf g players ns (all_terms new))
+            (sym joined)
+            (subst (AreTermsOf g players (take at rs ++ group)) (sym more.is)
+            (nodes_more g players (take at rs) group (all_terms old) e
+            (rw more.demands_are all_alike)
+            (λ above k there. more.says k (omega (arith, there, before.players_are)) above g are)
+            (before.told g are)));
+        ordered = ordered_more old new e more.is before.ordered
+            (λ d some. let le = before.next no_node less d some in
+            omega (arith, le, is, more.demands_are));
+        next = λ d there. below_more old new e more.is (get_or rs end d).demands
+            (omega (arith, rises d there, more.demands_are));
+        shaped = shaped;
+        players_are = as_many ∙ before.players_are;
+      }
 
 -- ---- terms in another order
 

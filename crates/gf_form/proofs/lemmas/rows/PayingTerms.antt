@@ -3,23 +3,27 @@
 use Rattle.gf_form.proofs.Common
 use Common.{AreProfileNumbers, *ℤ-cancel_right, AllByRecursion, div-mul_cancel, digit_actions, Bool}
 use Common.{full_profiles, if◌then◌else◌, strategies_at, paid_reached, sum_of_terms, unsigned_abs}
-use Common.{IsSpellable, all_choices, first_terms, AreExactAt, AreInOrder, AreOrdered, AreTermsOf}
-use Common.{ComeAsWell, choices_by, node_terms, HasDigits, SettlesAt, all_parts, Digits}
-use Common.{all_terms, number_at, root_path, *ℤ_assoc, AreAlike, IsShaped, all_both, div_self, Game}
-use Common.{dvd_refl, steps_of, ArePaid, MayCome, Settles, add-one, is_paid, lowered, one-dvd, List}
-use Common.{row_at, Ratio, Terms, arith, false, subst, Path, Term, ints, refl, true, zero, ℕ}
-use Common.{◌*ℤ◌, ◌++◌, ◌+ℤ◌, map, pos, suc, sym, ◌*◌, ◌+◌, ◌-◌, ◌/◌, ◌<◌, ◌^◌, ◌∙◌, ◌∣◌, ◌∷◌, ◌≡◌}
-use Common.{◌≤◌, [], ap, ℤ, reached, term_at, zero-*ℤ, Global, IsGame, add-*ℤ, get_or, length, Vec}
+use Common.{IsSpellable, all_choices, AreExactAt, AreInOrder, HasShares, SettlesAt}
+use Common.{ComeAsWell, choices_by, node_terms, HasDigits, Digits, all_terms, number_at}
+use Common.{root_path, *ℤ_assoc, AreAlike, IsShaped, all_both, div_self, Game, dvd_refl, steps_of}
+use Common.{ArePaid, Settles, is_paid, one-dvd, List, row_at, Ratio, Terms, arith, false, Path}
+use Common.{Term, ints, refl, true, ℕ, ◌*ℤ◌, ◌++◌, ◌+ℤ◌, map, pos, suc, sym, ◌*◌, ◌+◌, ◌-◌, ◌/◌}
+use Common.{◌<◌, ◌^◌, ◌∙◌, ◌∣◌, ◌∷◌, ◌≡◌, ◌≤◌, [], ap, ℤ, reached, zero-*ℤ, IsGame, add-*ℤ}
+use Common.{get_or, length}
 use Rattle.gf_fraction.proofs.Offered.{*ℤ_right_comm}
-use Rattle.gf_form.specs.inner.rows.Paying.{SettleAsWell, sizes_of, FitOver, IsOver, Kept}
-use Rattle.gf_form.proofs.lemmas.rows.FlatRows.{terms_count}
+use Rattle.gf_form.specs.inner.rows.Paying.{AreFitting, AreListed, IsOver, sizes_of}
+use Rattle.gf_form.specs.inner.rows.SummedNodes.{HaveSharesOf}
 use Rattle.gf_form.proofs.lemmas.rows.MergedTerms.{none_first, sum_append, come_both, same_come}
-use Rattle.gf_form.proofs.lemmas.rows.FlatRows.{lowered_none, ordered_more, skips, waits}
+use Rattle.gf_form.proofs.lemmas.rows.FlatRows.{none_ordered}
 use Rattle.gf_form.proofs.lemmas.strategies.StrategiesByNumber.{all_at}
 use Rattle.gf_form.proofs.lemmas.values.ValuesComputed.{empty_row}
-use Rattle.gf_form.proofs.lemmas.rows.ListedTerms.{terms_of_sums, no_number}
+use Rattle.gf_form.proofs.lemmas.rows.ListedTerms.{nodes_more, terms_of_sums, no_number}
 use Rattle.std.specs.List.{filter}
 use Rattle.gf_form.proofs.lemmas.rows.ReachedValues.{reached_value}
+
+sizes_append : (xs ys : List Term) → sizes_of (xs ++ ys) ≡ sizes_of xs + sizes_of ys
+sizes_append [] ys = omega arith
+sizes_append (x ∷ xs) ys = omega (arith, sizes_append xs ys)
 
 -- ---- all over one denominator
 
@@ -60,139 +64,83 @@ module _ (k den most : ℕ) (above : 0 < den) (steps choices : List ℕ) where
   all_scaled [] all exact = zero-*ℤ (pos den) ∙ sym (zero-*ℤ (pos most))
   all_scaled (e ∷ es) all exact = grind (arith, one_scaled, add-*ℤ, all_scaled es all.1 exact.1)
 
--- ---- some of the terms
+-- ---- those that are left
 
-kept_next : (es left : List Term) (e f : Term) → f.head.demands ≡ e.head.demands
-    → ((k : ℕ) → number_at (suc k) f ≡ number_at (suc k) e) → f.head.den ≡ e.head.den
-    → Kept es left → Kept (es ++ e ∷ []) (left ++ f ∷ [])
-kept_next es left e f demands numbers den before = record {
-  sums = λ k most steps choices. grind (arith, sum_append, numbers);
-  among = λ most all. grind (arith, all_both, all_parts (IsOver most) es (e ∷ []) all);
+-- one more term of nodes with its demands, which is left without its size unless it adds nothing
+module _ (rows : List (List Ratio)) (rs group : List Path) (size more : ℕ) (old new : Terms)
+    (e : Term) (alike : AllByRecursion (λ (r : Path). r.demands ≡ e.head.demands) group)
+    (says : (k : ℕ) → k < old.players → 0 < e.head.den → (g : Game) → ArePaid g rows
+    → HasShares g group k e.head.den e.head.size (number_at (suc k) e))
+    (over : e.head.den ≡ old.den) (sum : more ≡ size + e.head.size) (within : more < 2 ^ 127)
+    (same : AreAlike new old) (order : AreInOrder new) (before : AreFitting rows rs size old) where
+  with_it : ((k den : ℕ) (steps choices : List ℕ) → sum_of_terms (suc k) den steps choices
+      (all_terms new) ≡ sum_of_terms (suc k) den steps choices (before.terms ++ e ∷ []))
+      → AllByRecursion (IsOver new.den) (all_terms new) → AreFitting rows (rs ++ group) more new
+  with_it sums left_over = record {
+    terms = before.terms ++ e ∷ [];
+    told = λ g are. rw same.0 (nodes_more g old.players rs group before.terms e alike
+        (λ above k there. says k there above g are) (before.told g are));
+    over = rw same.1 (all_both (IsOver old.den) before.terms (e ∷ []) before.over (over, tt));
+    sizes = grind (arith, sizes_append);
+    within = within;
+    left_over = left_over;
+    sums = sums;
+    order = order;
+  }
+
+  pub fitting_more : all_terms new ≡ all_terms old
+      ++ record { head = record e.head { size = 0 }; row = e.row } ∷ []
+      → AreFitting rows (rs ++ group) more new
+  fitting_more is =
+      let f : Term = record { head = record e.head { size = 0 }; row = e.row } in
+      with_it (λ k den steps choices. grind (arith, sum_append))
+      (rw (is, same.1) (all_both (IsOver old.den) (all_terms old) (f ∷ []) before.left_over
+      (over, tt)))
+
+  pub fitting_same : all_terms new ≡ all_terms old
+      → ((k : ℕ) → number_at (suc k) e ≡ pos 0) → AreFitting rows (rs ++ group) more new
+  fitting_same is none =
+      with_it (λ k den steps choices. grind (arith, none_first, sum_append))
+      (rw (is, same.1) before.left_over)
+
+pub first_fitting : (rows : List (List Ratio)) (terms : Terms) → all_terms terms ≡ []
+    → IsShaped terms → AreFitting rows [] 0 terms
+first_fitting rows terms none shaped = record {
+  terms = [];
+  told = λ g are k less den steps choices exact. grind arith;
+  over = tt;
+  sizes = refl;
+  within = omega arith;
+  left_over = rw none tt;
+  sums = λ k den steps choices. rw none refl;
+  order = (shaped, (none_ordered terms none).0);
 }
 
-kept_zero : (es left : List Term) (e : Term) → ((k : ℕ) → number_at (suc k) e ≡ pos 0)
-    → Kept es left → Kept (es ++ e ∷ []) left
-kept_zero es left e none before = record {
-  sums = grind (arith, none_first, sum_append);
-  among = λ den all. before.among den (all_parts (IsOver den) es (e ∷ []) all).0;
+pub settled_as_well : (rows : List (List Ratio)) (rs : List Path) (size players : ℕ) (left : Terms)
+    → 0 < left.den → left.den < 2 ^ 127 → left.players ≡ players → AreFitting rows rs size left
+    → AreListed rows players rs (all_terms left)
+settled_as_well rows rs size players left above den_within same_players fit = record {
+  terms = fit.terms;
+  told = λ g are k less. fit.told g are k (rw same_players less);
+  settle = λ g number steps choices settles k less most most_above within exact small.
+      let den = left.den in
+      let base = settles k less den above den_within
+      (are_exact den above steps choices fit.terms fit.over) (grind (arith, sizes_met)) in
+      let whole = sum_of_terms (suc k) den steps choices fit.terms in
+      let left_whole = sum_of_terms (suc k) most steps choices (all_terms left) in
+      let num = base.payoff.num in
+      let own = base.payoff.den in
+      let same : whole *ℤ pos most ≡ left_whole *ℤ pos den =
+      ap (λ (z : ℤ). z *ℤ pos most) (sym (fit.sums k den steps choices))
+      ∙ sym (all_scaled (suc k) den most above steps choices (all_terms left) fit.left_over exact)
+      in record {
+        payoff = base.payoff;
+        fraction = base.fraction;
+        is_value = base.is_value;
+        over = *ℤ-cancel_right (num *ℤ pos most) (left_whole *ℤ pos own) den above
+            (grind (arith, *ℤ_right_comm));
+      };
 }
-
-pub settled_as_well : (from left : Terms) (den : ℕ) → FitOver den (all_terms from)
-    → Kept (all_terms from) (all_terms left) → SettleAsWell from left
-settled_as_well from left den fit kept g number steps choices settles k less most above within exact
-    small =
-    let all = fit.dens in
-    let base = settles k less den fit.above fit.within
-    (are_exact den fit.above steps choices (all_terms from) all)
-    (grind (arith, sizes_met)) in
-    let whole = sum_of_terms (suc k) den steps choices (all_terms from) in
-    let left_whole = sum_of_terms (suc k) most steps choices (all_terms left) in
-    let num = base.payoff.num in
-    let own = base.payoff.den in
-    let same : whole *ℤ pos most ≡ left_whole *ℤ pos den =
-    ap (λ (z : ℤ). z *ℤ pos most) (sym (kept.sums k den steps choices))
-    ∙ sym (all_scaled (suc k) den most fit.above steps choices (all_terms left) (kept.among den all)
-    exact) in
-    record {
-      payoff = base.payoff;
-      fraction = base.fraction;
-      is_value = base.is_value;
-      over = *ℤ-cancel_right (num *ℤ pos most) (left_whole *ℤ pos own) den fit.above
-          (grind (arith, *ℤ_right_comm));
-    }
-
--- ---- while they are gone over
-
-pub record Paying (from : Terms) (i : ℕ) (left : Terms) : Type 0 where
-  pub kept : Kept (first_terms from i) (all_terms left)
-  pub alike : AreAlike left from
-  pub order : AreInOrder left
-  pub may : MayCome from left 0 i (length from.demands.items)
-
-pub first_paying : (from left : Terms) → all_terms left ≡ [] → IsShaped left
-    → AreAlike left from → Paying from 0 left
-first_paying from left none shaped alike = grind (arith, terms_count)
-
-module _ (from : Terms) (i : ℕ) (left : Terms) (sorted : AreOrdered from)
-    (less : i < length from.demands.items) (before : Paying from i left) where
-  one_more : first_terms from (i + 1) ≡ first_terms from i ++ term_at from i ∷ []
-  one_more = ap (first_terms from) (add-one i)
-
-  pub more_paying : (after : Terms) → all_terms after ≡ all_terms left
-      ++ lowered 0 (term_at from i) ∷ []
-      → AreAlike after left → IsShaped after → Paying from (i + 1) after
-  more_paying after is alike shaped =
-      let t = lowered 0 (term_at from i) in record {
-        kept = grind (arith, one_more, lowered_none, kept_next);
-        alike = (alike.0 ∙ before.alike.0, alike.1 ∙ before.alike.1);
-        order = (shaped, ordered_more left after t is before.order.1 (before.may.rises less));
-        may = skips sorted (waits left after t is before.may (λ _. omega arith)) less;
-      }
-
-  pub same_paying : ((k : ℕ) → number_at (suc k) (term_at from i) ≡ pos 0)
-      → Paying from (i + 1) left
-  same_paying none =
-      let may = skips sorted before.may less in grind (arith, one_more, kept_zero)
-
--- those of terms that were put over one denominator
-pub last_paying : (from plain left : Terms) (i den : ℕ) → i ≡ length plain.demands.items
-    → FitOver den (all_terms from) → Kept (all_terms from) (all_terms plain) → Paying plain i left
-    → SettleAsWell from left
-last_paying from plain left i den all fit first done =
-    let second : Kept (all_terms plain) (all_terms left) =
-    subst (λ (n : ℕ). Kept (first_terms plain n) (all_terms left)) all done.kept in
-    settled_as_well from left den fit (record {
-      sums = grind arith;
-      among = λ den over. second.among den (first.among den over);
-    })
-
--- ---- one denominator for all
-
-pub kept_over : (from plain : Terms) → plain.players ≡ from.players
-    → plain.demands ≡ from.demands → plain.numbers ≡ from.numbers → plain.scaled.items ≡ []
-    → FitOver plain.den (all_terms from) → Kept (all_terms from) (all_terms plain)
-kept_over from plain players demands numbers none fit =
-    subst (λ (n : ℕ). Kept (all_terms from) (first_terms plain n))
-    (ap (λ (v : Vec ℕ Global). length v.items) (sym demands))
-    (all (length from.demands.items) fit.dens)
-  where
-    all : (n : ℕ) → AllByRecursion (IsOver plain.den) (first_terms from n)
-        → Kept (first_terms from n) (first_terms plain n)
-    all zero over = record { sums = λ k most steps choices. refl; among = λ most over. tt }
-    all (suc n) over =
-        let parts = all_parts (IsOver plain.den) (first_terms from n) (term_at from n ∷ []) over
-        in
-        kept_next (first_terms from n) (first_terms plain n) (term_at from n)
-        (term_at plain n) (grind arith) (λ k. grind arith) (grind arith) (all n parts.0)
-
--- ---- whether they fit
-
--- the first terms, so many
-pub record Fitting (den size : ℕ) (t : Terms) (i : ℕ) : Type 0 where
-  pub dens : AllByRecursion (IsOver den) (first_terms t i)
-  pub sizes : sizes_of (first_terms t i) ≡ size
-  pub within : size < 2 ^ 127
-
-sizes_append : (xs ys : List Term) → sizes_of (xs ++ ys) ≡ sizes_of xs + sizes_of ys
-sizes_append [] ys = omega arith
-sizes_append (x ∷ xs) ys = omega (arith, sizes_append xs ys)
-
-pub more_fitting : (den size more : ℕ) (t : Terms) (i : ℕ) → (term_at t i).head.den ≡ den
-    → more ≡ size + (term_at t i).head.size → more < 2 ^ 127
-    → Fitting den size t i → Fitting den more t (i + 1)
-more_fitting den size more t i same sum within before =
-    let next = add-one i in grind (arith, all_both, sizes_append)
-
-pub all_fit : (t : Terms) (den size i : ℕ) → i ≡ length t.demands.items
-    → Fitting den size t i → 0 < den → den < 2 ^ 127 → FitOver den (all_terms t)
-all_fit t den size i all done above within = grind arith
-
--- ---- profiles
-
-pub settled_at : (g : Game) (actions : List ℕ) (from left : Terms) (least number : ℕ)
-    → SettleAsWell from left → SettlesAt g actions from least number
-    → SettlesAt g actions left least number
-settled_at g actions from left least number as_well before = grind arith
 
 -- ---- the nodes that pay somebody something have all shares
 
@@ -216,21 +164,31 @@ module _ (g : Game) (rows : List (List Ratio)) (are : ArePaid g rows) (k : ℕ) 
 
 -- ---- what the terms settle
 
+-- the terms of nodes are terms of those whose shares they have
+pub listed_sums : (rows : List (List Ratio)) (players : ℕ) (rs ss : List Path) (left : List Term)
+    → HaveSharesOf rs ss → AreListed rows players ss left → AreListed rows players rs left
+listed_sums rows players rs ss left have listed = record {
+  terms = listed.terms;
+  told = λ g are. terms_of_sums g players rs ss listed.terms (λ k. have g (suc k))
+      (listed.told g are);
+  settle = listed.settle;
+}
+
 module _ (g : Game) (game : IsGame g) (spellable : IsSpellable g) (rows : List (List Ratio))
     (paid : ArePaid g rows) (numbers : List ℕ) (full : AreProfileNumbers g numbers) (d : Digits)
     (digits : HasDigits g d) (terms : Terms)
-    (told : AreTermsOf g (length g.players) (paid_reached rows g
+    (listed : AreListed rows (length g.players) (paid_reached rows g
     (choices_by g (map (λ own. own.items) d.steps.items))) (all_terms terms)) where
   settled : (number : ℕ) → number < length (full_profiles g)
       → Settles g number (steps_of (digit_actions d))
-      (get_or (all_choices (digit_actions d)) number []) (all_terms terms)
+      (get_or (all_choices (digit_actions d)) number []) listed.terms
   settled number below k less den above within exact small =
       let actions = digit_actions d in
       let choices = get_or (all_choices actions) number [] in
       let steps = choices_by g (map (λ own. own.items) d.steps.items) in
       let h = terms_of_sums g (length g.players) (reached g steps root_path g.tree)
-      (paid_reached rows g steps) (all_terms terms) (λ k. kept_come g rows paid k _) told k less den
-      (steps_of actions) choices exact in
+      (paid_reached rows g steps) listed.terms (λ k. kept_come g rows paid k _)
+      (listed.told g paid) k less den (steps_of actions) choices exact in
       let v = reached_value g game spellable steps
       (choices_by g (strategies_at g (get_or (full_profiles g) number []))) actions choices
       (digits.choices number below) (suc k) den (grind arith) in grind arith
@@ -240,4 +198,5 @@ module _ (g : Game) (game : IsGame g) (spellable : IsSpellable g) (rows : List (
   settle_all i less =
       let number = get_or numbers i 0 in
       let below = all_at (λ number. number < length (full_profiles g)) numbers i 0 full less in
-      let same : number ≡ number - 0 = omega arith in grind (arith, settled)
+      let same : number ≡ number - 0 = omega arith in
+      let settle = listed.settle g number in grind (arith, settled)

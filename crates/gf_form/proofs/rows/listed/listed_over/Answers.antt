@@ -1,24 +1,53 @@
-use Rattle.gf_form.proofs.Common.{get_or_default, take-length, length, arith, Path, ◌≡◌, ap}
-use Rattle.gf_form.proofs.lemmas.rows.ListedTerms.{no_node, nodes_listed}
+use Rattle.gf_form.proofs.Common.{arith, length, refl, rows_of, take, take-length, ◌∙◌, ◌≡◌}
+use Rattle.gf_form.proofs.lemmas.rows.FlatRows.{none_ordered}
+use Rattle.gf_form.proofs.lemmas.rows.ListedTerms.{all_alike, joined, rises}
+use Rattle.gf_form.proofs.lemmas.rows.PayingTerms.{first_fitting, settled_as_well}
 use Rattle.gf_form.proofs.rows.listed.listed_over.Goals as goal
+
+pub loop-start-init : goal.loop-start-init
+loop-start-init c =
+    let terms = c.new-terms.ensures in record {
+      fitting = first_fitting (rows_of c.args.payoffs.now) c.new-terms.result terms.none
+          terms.shaped;
+      next = λ d _. (none_ordered c.new-terms.result terms.none).1 _;
+      players = terms.players;
+      den = terms.den;
+      within = omega arith;
+    }
+
+pub push_fitting-requires-clause-alike : goal.push_fitting-requires-clause-alike
+push_fitting-requires-clause-alike c =
+    let end = c.alike_end-end.ensures in
+    all_alike c.args.nodes.now c.requires c.loop-start.start c.alike_end-end.result
+    c.loop-start-test.true end.onward end.within end.alike _ refl
 
 pub loop-start-preserved : goal.loop-start-preserved
 loop-start-preserved c =
+    let nodes = c.args.nodes.now in
     let start = c.loop-start.start in
-    let inv = c.loop-start.invariant in
+    let stop = c.alike_end-end.result in
+    let test = c.loop-start-test.true in
     let end = c.alike_end-end.ensures in
-    let more = c.in_ok-push_nodes.ensures in (
-      nodes_listed _ _ c.args.nodes.now c.requires start c.alike_end-end.result
-          c.loop-start-test.true end.onward end.within end.alike _
-          (ap (λ (r : Path). r.demands)
-          (get_or_default c.args.nodes.now start _ no_node c.loop-start-test.true)) _ _ inv.0
-          more.term more.shaped more.players,
-      end.within,
-    )
+    let more = c.in_ok-more.ensures in
+    let inv = c.loop-start.invariant in
+    record {
+      fitting = rw (joined nodes c.requires start stop test end.onward end.within end.alike _ refl)
+          ((rw c.in-Some.is at more.fitting) (take start nodes) inv.fitting);
+      next = λ d less e some. omega (
+        arith,
+        more.ends e some,
+        rises nodes c.requires start stop test end.onward end.within end.alike _ refl d less,
+      );
+      players = more.alike.0 ∙ inv.players;
+      den = more.alike.1 ∙ inv.den;
+      within = end.within;
+    }
 
-pub returns-clause-terms : goal.returns-clause-terms
-returns-clause-terms c g are =
+pub returns-clause-listed : goal.returns-clause-listed
+returns-clause-listed c =
     let inv = c.loop-start.invariant in
     let all : c.loop-start.start ≡ length c.args.nodes.now =
-    omega (arith, c.loop-start-test.false, inv.1) in
-    rw (all, take-length) at (inv.0.told g are)
+    omega (arith, c.loop-start-test.false, inv.within) in
+    settled_as_well (rows_of c.args.payoffs.now) c.args.nodes.now c.loop-start.size c.args.players
+    c.loop-start.terms (omega (arith, inv.den)) (omega (arith, inv.den)) inv.players
+    (rw (all, take-length) at inv.fitting)

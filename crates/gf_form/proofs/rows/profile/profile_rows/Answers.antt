@@ -1,5 +1,5 @@
-use Rattle.gf_form.proofs.Common.{digit_actions, common_steps, rows_of, get_or, arith, sym, ◌∙◌}
-use Rattle.gf_form.proofs.lemmas.rows.PayingTerms.{settle_all, settled_at}
+use Rattle.gf_form.proofs.Common.{common_steps, rows_of, arith, sym, ◌∙◌}
+use Rattle.gf_form.proofs.lemmas.rows.PayingTerms.{settle_all}
 use Rattle.gf_form.proofs.rows.profile.profile_rows.Goals as goal
 
 pub push_rows-requires-clause-settled : goal.push_rows-requires-clause-settled
@@ -9,17 +9,14 @@ push_rows-requires-clause-settled c =
     let digits = c.in_ok-digits.ensures c.args.game.now c.requires.counts in
     let terms = c.in_ok-terms.ensures in
     rw c.deref.ensures.value (record {
-      are_terms = ((terms.shaped, terms.ordered), terms.players ∙ c.in_ok-listed.ensures.players);
+      are_terms = (terms.order, terms.players);
       steps = digits.steps;
       within = digits.within;
       count = c.requires.counts.profiles ∙ sym digits.as_many;
       settles = λ i from less.
-          settled_at c.args.game.now (digit_actions d) c.in_ok-listed.listed c.in_ok-terms.terms 0
-          (get_or c.args.numbers.now i 0) terms.settle
-          (settle_all c.args.game.now is_game c.players-players.ensures.spellable
+          settle_all c.args.game.now is_game c.players-players.ensures.spellable
           (rows_of c.in_ok-payoffs.payoffs) c.in_ok-payoffs.ensures c.args.numbers.now
-          c.requires.numbers d digits c.in_ok-listed.listed c.in_ok-listed.ensures.terms i
-          (omega (arith, less)));
+          c.requires.numbers d digits c.in_ok-terms.terms terms.listed i (omega (arith, less));
     })
 
 pub new-requires-2 : goal.new-requires-2
