@@ -21,8 +21,8 @@ pub use Rattle.gf_token.specs.declared.names.Names.{Names}
 pub use Rattle.gf_token.specs.declared.names.Names.TheVariants.{Aside, Kept}
 pub use Rattle.gf_canon.specs.inner.NamedBy.{heading_by, game_by, node_by}
 pub use Rattle.gf_canon.specs.inner.NumberMaps.{number_of_set, numbers_in, set_order, noted}
-pub use Rattle.gf_canon.specs.inner.TextParts.{heading_text, mover_letter, number_then, first_line}
-pub use Rattle.gf_canon.specs.inner.TextParts.{plain_line, node_line, tail_text, told_text}
+pub use Rattle.gf_canon.specs.inner.TextParts.{heading_text, first_line, EndsAt}
+pub use Rattle.gf_canon.specs.inner.TextParts.{node_line, told_text}
 pub use Rattle.gf_fraction.proofs.Offered.{all_images, all_weaker}
 pub use Rattle.gf_nfg.specs.Limit.{IsWithinLimit}
 pub use Rattle.gf_nfg.specs.Profiles.{numbers_from, positions}

@@ -3,5 +3,5 @@
 pub(crate) mod braces;
 pub(crate) mod lines;
 pub(crate) mod node_line;
-pub(crate) mod plain_line;
+pub(crate) mod numbers;
 pub(crate) mod write;

@@ -3,7 +3,6 @@ pub mod Compared
 pub mod Fields
 pub mod FileOf
 pub mod OneFile
-pub mod PlainLines
 pub mod ReadsBack
 pub mod SaidFields
 pub mod Spellables

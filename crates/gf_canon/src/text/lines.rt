@@ -49,6 +49,6 @@ impl<'a> Receive<'a> for ToldText {
     #[tactic(auto, using(crate::proofs::lemmas::texts::ToldTexts::one_line_more))]
     #[inline(always)]
     fn node(&mut self, node: NumberedNode<'_, 'a>) -> Result<(), AllocError> {
-        write_node(&counted_node(node.file_node(), self.names), &mut self.text)
+        write_node(counted_node(node.file_node(), self.names), &mut self.text)
     }
 }

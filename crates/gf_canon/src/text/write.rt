@@ -54,7 +54,7 @@ fn write_text(g: &Game<'_>, out: &mut Vec<u8>) -> Result<(), AllocError>
 {
     write_heading(g.heading(), out)?;
     for node in g.file_nodes() {
-        write_node(&node.file_node(), out)?;
+        write_node(node.file_node(), out)?;
     }
     Ok(())
 }

@@ -5,9 +5,13 @@ use Common.{flat_map-append, InformationSet, action_fields, append_assoc, headin
 use Common.{mover_fields, step_fields, append-nil, file_nodes, first_line, heading_in, lines_text}
 use Common.{game_text, list_text, node_line, node_text, FileNode, drop-set, flat_map, label_of, Use}
 use Common.{Heading, decimal, Option, SetKey, length, quoted, spaced, arith, codes, Game, List, map}
-use Common.{None, Some, refl, zero, ◌++◌, set, suc, sym, ◌<◌, ◌^◌, ◌∙◌, ◌∷◌, ◌≡◌, ◌≤◌, [], ap, ℕ}
+use Common.{Keeps, None, Some, drop, refl, set, take, zero, length-append, ◌+◌, ◌++◌, suc, sym, ◌<◌, ◌^◌, ◌∙◌, ◌∷◌, ◌≡◌, ◌≤◌, [], ap, ℕ}
+use Rattle.std.specs.Prelude.{◌*◌, ◌/◌}
 use Rattle.gf_fraction.specs.NumberText.{number_text}
-use Rattle.std.proofs.lemmas.Fmt.{length-decimal-le}
+use Rattle.std.proofs.Math.Seq.{take-add, take-append_seam}
+use Rattle.std.proofs.lemmas.List.{take-take}
+use Rattle.std.proofs.lemmas.Fmt.{decimal_digit, decimal_step}
+use Rattle.std.specs.Fmt.{digits}
 use Rattle.gf_fraction.specs.Ratio.{Ratio}
 use Rattle.gf_token.specs.declared.label.Label.{Label}
 use Rattle.gf_tree.specs.Actions.{actions_of}
@@ -66,10 +70,11 @@ step_joined name set ys = grind (arith, spaced_is, others_joined, append_assoc, 
 
 -- ---- lines
 
--- a line, written in two parts and its end
-pub line_written : (old out1 out2 out3 x y line : List ℕ) → out1 ≡ old ++ x → out2 ≡ out1 ++ y
-    → out3 ≡ out2 ++ 10 ∷ [] → line ≡ x ++ y → out3 ≡ old ++ (line ++ 10 ∷ [])
-line_written old out1 out2 out3 x y line e1 e2 e3 e = grind (arith, append_assoc)
+-- what was kept of a text is kept of its beginning
+pub kept_from : (old more out new : List ℕ) → out ≡ old ++ more → Keeps out new → Keeps old new
+kept_from old more out new e kept =
+    let long = ap length e ∙ length-append old more in
+    cc (take-take (length old) (length out) new (omega (arith, long)), take-append_seam old more)
 
 -- the lines of the nodes
 abbrev pub node_lines : List FileNode → List ℕ
@@ -95,10 +100,31 @@ text_done g h left old heading out is e none lines =
 
 -- ---- numbers
 
--- a number of 32 bits has ten digits at most
-pub ten_digits : (n : ℕ) → n < 2 ^ 32 → length (decimal n) ≤ 10
-ten_digits n h = length-decimal-le 10 n (omega arith) (omega arith) (omega arith)
+-- a space and digits are written after what is kept
+pub spaced_from : (text old new number rest : List ℕ) (at start end : ℕ) → start ≡ at + 1
+    → at < length text → old ≡ set text at 32 → start + length number ≡ end
+    → take start new ≡ take start old → drop start new ≡ number ++ rest
+    → take end new ≡ take at text ++ 32 ∷ number
+spaced_from text old new number rest at start end e within space long before written =
+    let whole = take-add start (length number) new in
+    let seam = take-append_seam number rest in
+    grind (arith, common_steps)
 
-pub ruleset digits_before = (ten_digits, drop-set)
+-- as many digits as the power of ten below the number tells
+pub counted : (k n : ℕ) → 10 ^ k ≤ n → n < 10 * 10 ^ k → n < 2 ^ 64 → length (decimal n) ≡ k + 1
+counted zero n lo hi small = ap length (decimal_digit n (omega arith))
+counted (suc k) n lo hi small =
+    let tens = counted k (n / 10) (omega arith) (omega arith) (omega arith) in
+    grind (arith, decimal_step n (omega arith) small, length-append)
 
-pub ruleset described_line = (common_steps, line_written, step_joined)
+pub ruleset number_at = (common_steps, counted, decimal_digit)
+
+-- ---- the line of a node
+
+pub zero_text : decimal 0 ≡ codes "0"
+unfolding digits
+zero_text = refl
+
+pub ruleset result_written = (common_steps, kept_from, zero_text)
+
+pub ruleset line_done = (common_steps, kept_from, step_joined)
