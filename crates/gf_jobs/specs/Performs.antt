@@ -2,7 +2,6 @@
 use Rattle.std.specs.Prelude.{◌≡◌, ◌≢◌, ◌⊎◌, ℕ, Bool, max, List, [], ◌∷◌, ◌++◌, Option, Some, None}
 use Rattle.std.specs.Prelude.{Result, Ok, Err, IsOk, ⊤, true, false, codes, if◌then◌else◌, map}
 use Rattle.std.specs.Prelude.{IfSome, MatchResult}
-use Rattle.std.specs.List.{flat_map}
 use Rattle.std.specs.String.{string_bytes}
 use Rattle.std.specs.IoError.{error_kind}
 use Rattle.std.specs.declared.io.Error.{Error}
@@ -27,7 +26,6 @@ use Rattle.gf_run.specs.Run.{Reads, RunsTwo, Writes}
 use Rattle.gf_jobs.specs.Lines.{ReadsHash, RunsLine, RunsOne}
 use Rattle.gf_run.specs.Streams.{Stream}
 use Rattle.gf_run.specs.Texts.{AreCanonical, IsAnswer, IsLine, IsLineAndMap}
-use Rattle.gf_jobs.specs.Lines.{after_name}
 use Rattle.gf_jobs.specs.Wrapped.{bytes_kept, kept_at_first, kept_reader, source_of}
 use Rattle.gf_jobs.specs.declared.collections.file.CollectionFile.{CollectionFile}
 use Rattle.gf_jobs.specs.declared.collections.kept_files.Repeats.{Repeats}
@@ -225,10 +223,6 @@ IsListReport errors explain (RunFault.Read which) (Paths.List list end) =
     IsNamedReport errors (called (codes "-") list) (kept_at_first explain) (RunFault.Read which)
 IsListReport errors explain fault paths = IsReported errors [] None fault
 
--- what is said of folders that have no game files: a line for each
-abbrev pub without_games : List (List ℕ) → List ℕ
-without_games folders = flat_map (λ folder. after_name folder (codes "no game files\n")) folders
-
 -- ---- by the job
 
 -- the answer about two files: with their renumbering if `map` is true, otherwise by names
@@ -306,10 +300,10 @@ module _ {I S W E : Type 0} (opener : Opener I S) (reader : Stream S) (writer : 
       : Type 0 where
     -- the files are found, before any of them is opened; folders that were named and have none are
     -- reported, as far as the writer allowed; and the task was done for the files
-    found : (names : List (List ℕ)) (files : List CollectionFile) (folders : List (List ℕ))
+    found : (names : List (List ℕ)) (files : List CollectionFile) (report : List ℕ)
         (mid : World I W E) → AreNames opener reader paths names a.inputs mid.inputs
-        → mid.output ≡ a.output → AreFilesOf opener mid.inputs (repeats_of task) names files folders
-        → IsSent errors (without_games folders) a.errors mid.errors
+        → mid.output ≡ a.output → AreFilesOf opener mid.inputs (repeats_of task) names files report
+        → IsSent errors report a.errors mid.errors
         → Does task files status mid b → PerformsAll task paths status a b
     -- they are not, or memory for that report ran out, which was reported
     unlisted : (fault : RunFault) → IsUnlisted opener paths fault a.inputs b.inputs
