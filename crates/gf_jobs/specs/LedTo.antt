@@ -45,9 +45,6 @@ Seen = BTreeSet (ℕ × ℕ)
 abbrev pub by_identity : ℕ × ℕ → ℕ × ℕ → Ordering
 by_identity a b = ordering_then (nat_cmp a.0 b.0) (nat_cmp a.1 b.1)
 
-abbrev pub has_come : Seen → ℕ × ℕ → Bool
-has_come = contains by_identity
-
 -- one more has
 abbrev pub IsOneMore : ℕ × ℕ → Seen → Seen → Type 0
 IsOneMore identity old new = new.keys ≡ insert_key by_identity old.keys identity
@@ -75,7 +72,7 @@ abbrev pub IsNoted : Repeats → (named may_be_game : Bool) → (file : ℕ × �
 IsNoted repeats named false file old new fate = (new ≡ old) × (fate ≡ Fate.NoGame)
 IsNoted Repeats.Kept named true file old new fate = (new ≡ old) × (fate ≡ Fate.Kept)
 IsNoted Repeats.PassedOver named true file old new fate = IsOneMore file old new
-    × (fate ≡ if named || not (has_come old file) then Fate.Kept else Fate.PassedOver)
+    × (fate ≡ if named || not (contains by_identity old file) then Fate.Kept else Fate.PassedOver)
 
 -- for what shows which files there are, as it is; `repeats` says whether a file is kept again
 module _ {I S : Type 0} (opener : Opener I S) (i : I) (repeats : Repeats) where
@@ -83,12 +80,12 @@ module _ {I S : Type 0} (opener : Opener I S) (i : I) (repeats : Repeats) where
   pub data Enters (path : List ℕ) (folder : ℕ × ℕ) (old new : Seen)
       : (inside : List CollectionFile) → Fate → Type 0 where
     -- it is not opened again
-    again : has_come old folder ≡ true → new.keys ≡ old.keys
+    again : contains by_identity old folder ≡ true → new.keys ≡ old.keys
         → Enters path folder old new [] Fate.NoGame
     -- what is in it is looked at next; it is kept if its names are not all known, and then cannot be
     -- read either
     first : (names : List (List ℕ)) (is_whole : Bool) (inside : List CollectionFile)
-        → has_come old folder ≡ false → IsOneMore folder old new
+        → contains by_identity old folder ≡ false → IsOneMore folder old new
         → opener.listed i (folder_at path) names is_whole → AreIn (folder_at path) names inside
         → Enters path folder old new inside (kept_if (not is_whole))
 

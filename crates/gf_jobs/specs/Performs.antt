@@ -20,12 +20,12 @@ use Rattle.gf_run.specs.Transfers.{IsNotRead, IsReadWhole}
 use Rattle.gf_jobs.specs.LedTo.{AreFilesOf}
 use Rattle.gf_jobs.specs.Listed.{names_in}
 use Rattle.gf_jobs.specs.Opening.{Opener, Opens, OpensBoth, OpensFile, file_named, file_of}
+use Rattle.gf_jobs.specs.Opening.{bytes_kept, kept_at_first, kept_reader, source_of}
 use Rattle.gf_jobs.specs.Reports.{Ends, IsReported, IsSent, IsNamedReport, called, name_of}
 use Rattle.gf_run.specs.Run.{Reads, RunsTwo, Writes}
 use Rattle.gf_jobs.specs.Lines.{ReadsHash, RunsLine, RunsOne}
 use Rattle.gf_run.specs.Streams.{Stream}
 use Rattle.gf_run.specs.Texts.{AreCanonical, IsAnswer, IsLine, IsLineAndMap}
-use Rattle.gf_jobs.specs.Wrapped.{bytes_kept, kept_at_first, kept_reader, source_of}
 use Rattle.gf_jobs.specs.declared.collections.file.CollectionFile.{CollectionFile}
 use Rattle.gf_jobs.specs.declared.collections.kept_files.Repeats.{Repeats}
 use Rattle.gf_jobs.specs.declared.collections.line.FileLine.{FileLine}
@@ -143,25 +143,22 @@ abbrev pub repeats_of : Task → Repeats
 repeats_of (Task.Duplicates names end) = Repeats.PassedOver
 repeats_of task = Repeats.Kept
 
--- for what opens inputs, and what an input reports: which names a collection has, and what is opened to
--- learn them
+-- for what opens inputs, and what an input reports: which names a collection has, or why they are not
+-- known, and what is opened to learn them
 module _ {I S : Type 0} (opener : Opener I S) (reader : Stream S) where
-  -- the names that were given, or `-` if there are none; or the names in a list, which is opened once,
-  -- if the bytes of this list are known
-  abbrev pub AreNames : Paths → List (List ℕ) → I → I → Type 0
-  AreNames Paths.Standard names i i' = (names ≡ codes "-" ∷ []) × (i' ≡ i)
-  AreNames (Paths.Named words) names i i' = (names ≡ map string_bytes words.items) × (i' ≡ i)
-  AreNames (Paths.List list end) names i i' = (s : S) × Opens opener (file_of list) i (Ok s) i'
-      × IfSome (reader.known s) (λ bytes. names ≡ names_in end bytes)
-
--- for what opens inputs: why the files may not be known. Memory ran out; or a list, which is opened
--- once, could not be opened, or was opened and is said not to be read.
-abbrev pub IsUnlisted : {I S : Type 0} → Opener I S → Paths → RunFault → I → I → Type 0
-IsUnlisted {S = S} opener (Paths.List list end) fault i i' = (answer : Result S Error)
-    × Opens opener (file_of list) i answer i' × MatchResult answer
-    (λ s. (fault ≡ RunFault.Memory) ⊎ (fault ≡ RunFault.Read Which.Only))
-    (λ error. fault ≡ RunFault.Read Which.Only)
-IsUnlisted opener paths fault i i' = (fault ≡ RunFault.Memory) × (i' ≡ i)
+  -- the names that were given, or `-` if there are none, unless memory ran out; or those in a list, which
+  -- is opened once, if the bytes of this list are known, unless memory ran out, the list could not be
+  -- opened, or it is said not to be read
+  abbrev pub AreNames : Paths → Result (List (List ℕ)) RunFault → I → I → Type 0
+  AreNames Paths.Standard result i i' = (i' ≡ i)
+      × MatchResult result (λ names. names ≡ codes "-" ∷ []) (λ fault. fault ≡ RunFault.Memory)
+  AreNames (Paths.Named words) result i i' = (i' ≡ i) × MatchResult result
+      (λ names. names ≡ map string_bytes words.items) (λ fault. fault ≡ RunFault.Memory)
+  AreNames (Paths.List list end) result i i' = (answer : Result S Error)
+      × Opens opener (file_of list) i answer i' × MatchResult answer
+      (λ s. MatchResult result (λ names. IfSome (reader.known s) (λ bytes. names ≡ names_in end bytes))
+      (λ fault. (fault ≡ RunFault.Memory) ⊎ (fault ≡ RunFault.Read Which.Only)))
+      (λ error. result ≡ Err (RunFault.Read Which.Only))
 
 -- It was reported why no file is opened: a list could not be read, which is said after its name, and
 -- explained if `explain` is true; or memory ran out.
@@ -262,12 +259,12 @@ module _ {I S W E : Type 0} (opener : Opener I S) (reader : Stream S) (writer : 
     -- the files are found, before any of them is opened; folders that were named and have none are
     -- reported, as far as the writer allowed; and the task was done for the files
     found : (names : List (List ℕ)) (files : List CollectionFile) (report : List ℕ)
-        (mid : World I W E) → AreNames opener reader paths names a.inputs mid.inputs
+        (mid : World I W E) → AreNames opener reader paths (Ok names) a.inputs mid.inputs
         → mid.output ≡ a.output → AreFilesOf opener mid.inputs (repeats_of task) names files report
         → IsSent errors report a.errors mid.errors
         → Does task files status mid b → PerformsAll task paths status a b
     -- they are not, or memory for that report ran out, which was reported
-    unlisted : (fault : RunFault) → IsUnlisted opener paths fault a.inputs b.inputs
+    unlisted : (fault : RunFault) → AreNames opener reader paths (Err fault) a.inputs b.inputs
         → b.output ≡ a.output
         → IsListReport errors explain fault paths status a.errors b.errors
         → PerformsAll task paths status a b

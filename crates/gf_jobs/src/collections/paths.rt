@@ -1,8 +1,8 @@
 //! The files of a collection: those that words or a list of names lead to.
 
-ghost use Rattle.std.specs.Prelude.{IfErr, IfOk, List, map, ℕ};
+ghost use Rattle.std.specs.Prelude.{Err, IfErr, IfOk, List, Ok, map, ℕ};
 ghost use Rattle.gf_jobs.specs.LedTo.{AreFilesOf};
-ghost use Rattle.gf_jobs.specs.Performs.{AreNames, IsUnlisted};
+ghost use Rattle.gf_jobs.specs.Performs.{AreNames};
 
 use crate::collections::file::CollectionFile;
 use crate::collections::folders::push_files;
@@ -32,10 +32,10 @@ fn names_in<I: Inputs>(
     list: &Input,
     end: LineEnd,
 ) -> Result<Vec<Vec<u8>>, Failed>
-    ensures names { IfOk result (λ names. AreNames I.opener I.Opened.reader
-        (Paths.List list.now end) (map (λ name. name.items) names.items) inputs.old inputs.new) }
-    ensures fault { IfErr result (λ failed.
-        IsUnlisted I.opener (Paths.List list.now end) failed.fault inputs.old inputs.new) }
+    ensures names { IfOk result (λ names. AreNames I.opener I.Opened.reader (Paths.List list.now end)
+        (Ok (map (λ name. name.items) names.items)) inputs.old inputs.new) }
+    ensures fault { IfErr result (λ failed. AreNames I.opener I.Opened.reader
+        (Paths.List list.now end) (Err failed.fault) inputs.old inputs.new) }
 {
     let input = match open_input(inputs, list) {
         Ok(input) => input,
@@ -95,11 +95,11 @@ pub fn files_at<I: Inputs>(
     repeats: Repeats,
 ) -> Result<FoundFiles, Failed>
     ensures files { IfOk result (λ found. (names : List (List ℕ))
-        × AreNames I.opener I.Opened.reader paths.now names inputs.old inputs.new
+        × AreNames I.opener I.Opened.reader paths.now (Ok names) inputs.old inputs.new
         × AreFilesOf I.opener inputs.new repeats names found.files.items
         found.without_games.items) }
     ensures fault { IfErr result (λ failed.
-        IsUnlisted I.opener paths.now failed.fault inputs.old inputs.new) }
+        AreNames I.opener I.Opened.reader paths.now (Err failed.fault) inputs.old inputs.new) }
 {
     match paths {
         Paths::Standard => Ok(files_led_to(alloc, inputs, &["-"], repeats)?),

@@ -1,7 +1,8 @@
 //! How the canonical text of a file is put in its place.
 
+ghost use Rattle.std.specs.Prelude.{true};
+ghost use Rattle.std.specs.Result.{result_map_both};
 ghost use Rattle.gf_jobs.specs.Performs.{IsReplacedBy, IsRewritten, IsUnreplaced, Rewrites};
-ghost use Rattle.gf_jobs.specs.inner.Causes.{without_cause};
 
 use crate::collections::file::CollectionFile;
 use crate::explain::{Cause, Failed};
@@ -30,8 +31,8 @@ fn unreplaced(error: io::Error) -> Failed
 
 /// Puts a text in the place of a file. Standard input has none.
 fn replace<I: Inputs>(inputs: &mut I, file: &CollectionFile, text: TextPieces) -> Result<(), Failed>
-    ensures { IsReplacedBy I.opener file.now text.rest (without_cause result)
-        inputs.old inputs.new }
+    ensures { IsReplacedBy I.opener file.now text.rest
+        (result_map_both (λ done. true) (λ failed. failed.fault) result) inputs.old inputs.new }
 {
     match file {
         CollectionFile::Input(Input::File(name)) => {
@@ -50,7 +51,7 @@ fn put_text<I: Inputs>(
     names: Names,
 ) -> Result<(), Failed>
     ensures { IsRewritten I.opener names file.now inputs.old inputs.new bytes.now
-        (without_cause result) }
+        (result_map_both (λ done. true) (λ failed. failed.fault) result) }
 {
     if are_canonical(alloc, bytes, names)? {
         return Ok(());
@@ -68,7 +69,8 @@ pub(crate) fn rewrite<I: Inputs>(
     file: &CollectionFile,
     names: Names,
 ) -> Result<(), Failed>
-    ensures { Rewrites I.opener I.Opened.reader names file.now (without_cause result)
+    ensures { Rewrites I.opener I.Opened.reader names file.now
+        (result_map_both (λ done. true) (λ failed. failed.fault) result)
         source.old source.new inputs.old inputs.new }
 {
     match load(alloc, source, Which::Only) {
