@@ -1,7 +1,6 @@
 -- How a file is put into the group of its hash.
 use Rattle.std.proofs.Common.{length, get_or, false, subst, arith, Bool, true, cond, List, ◌++◌}
-use Rattle.std.proofs.Common.{refl, ◌≡◌, ◌<◌, ◌≤◌, ◌∷◌, map, set, sym, ◌∙◌, [], inl, inr}
-use Rattle.std.proofs.Common.{ℕ}
+use Rattle.std.proofs.Common.{refl, ◌≡◌, ◌<◌, ◌≤◌, ◌∷◌, map, set, sym, ◌∙◌, [], inl, inr, ℕ}
 use Rattle.std.proofs.lemmas.Bool.{both_ways}
 use Rattle.std.proofs.lemmas.Bool.Decides.{Decides-eqb}
 use Rattle.std.proofs.lemmas.List.{append-nil, get_or-map, length-map, map-append, map-set}
@@ -10,16 +9,15 @@ use Rattle.std.proofs.lemmas.Slice.Eq.{slice_eq-Decides}
 use Rattle.std.specs.List.{list_any, position_or_len}
 use Rattle.std.specs.Prelude.{◌⊎◌}
 use Rattle.gf_tree.specs.FiniteMap.{first_uses}
+use Rattle.std.specs.Str.{bytes_eq}
 use Rattle.gf_tree.proofs.Offered.{AreDistinct, Has, IsEquality, first_uses_distinct, is_used}
-use Rattle.gf_tree.proofs.Offered.{known_more, map_twice, used_before}
-use Rattle.gf_tree.proofs.Offered.{was_used}
+use Rattle.gf_tree.proofs.Offered.{known_more, map_twice, used_before, was_used}
 use Rattle.indexmap.specs.IndexSet.{insert_key}
 use Rattle.gf_jobs.specs.Duplicates.{HashedFile, hashes_of, having, names_of}
 use Rattle.gf_jobs.specs.inner.KeptNames.{IsKeptOf, KeptNames}
-use Rattle.gf_jobs.specs.Duplicates.{same_hash}
 
-pub same_hash_equality : IsEquality same_hash
-same_hash_equality a b = slice_eq-Decides Decides-eqb a b (same_hash a b) refl
+pub same_hash_equality : IsEquality bytes_eq
+same_hash_equality a b = slice_eq-Decides Decides-eqb a b (bytes_eq a b) refl
 
 module _ {K : Type 0} (same : K → K → Bool) (equality : IsEquality same) where
   -- the test finds what a list has
@@ -77,15 +75,15 @@ none_having (f ∷ files) k apart =
 
 each_more : (files : List HashedFile) (f : HashedFile) (h : List ℕ)
     → names_of (having (files ++ f ∷ []) h)
-    ≡ names_of (having files h) ++ cond (same_hash h f.hash) (f.name ∷ []) []
+    ≡ names_of (having files h) ++ cond (bytes_eq h f.hash) (f.name ∷ []) []
 each_more files f h = grind (arith, filter-append, map-append)
 
 hashes_more : (files : List HashedFile) (f : HashedFile)
-    → hashes_of (files ++ f ∷ []) ≡ insert_key same_hash (hashes_of files) f.hash
-hashes_more files f = grind (arith, map-append, first_uses_more same_hash same_hash_equality)
+    → hashes_of (files ++ f ∷ []) ≡ insert_key bytes_eq (hashes_of files) f.hash
+hashes_more files f = grind (arith, map-append, first_uses_more bytes_eq same_hash_equality)
 
 names_by_more : (files : List HashedFile) (f : HashedFile) (hashes : List (List ℕ))
-    → map (λ h. names_of (having files h) ++ cond (same_hash h f.hash) (f.name ∷ []) []) hashes
+    → map (λ h. names_of (having files h) ++ cond (bytes_eq h f.hash) (f.name ∷ []) []) hashes
     ≡ map (λ h. names_of (having (files ++ f ∷ []) h)) hashes
 names_by_more files f hashes = simp each_more
 
@@ -95,8 +93,8 @@ is_kept : (files : List HashedFile) (kept : KeptNames) (hashes : List (List ℕ)
 is_kept files kept hashes is same names = grind (arith, map_twice)
 
 module _ (files : List HashedFile) (kept : KeptNames) (is : IsKeptOf files kept) (f : HashedFile)
-    (new : KeptNames) (inserted : new.hashes ≡ insert_key same_hash kept.hashes f.hash)
-    (at : ℕ) (placed : at ≡ position_or_len (same_hash f.hash) kept.hashes) where
+    (new : KeptNames) (inserted : new.hashes ≡ insert_key bytes_eq kept.hashes f.hash)
+    (at : ℕ) (placed : at ≡ position_or_len (bytes_eq f.hash) kept.hashes) where
   hashes_are : new.hashes ≡ hashes_of (files ++ f ∷ [])
   hashes_are = cc (inserted, is.hashes, hashes_more files f)
 
@@ -107,17 +105,17 @@ module _ (files : List HashedFile) (kept : KeptNames) (is : IsKeptOf files kept)
   as_many = grind (arith, length-map, is.names, is.hashes)
 
   apart : AreDistinct kept.hashes
-  apart = rw is.hashes (first_uses_distinct same_hash same_hash_equality _)
+  apart = rw is.hashes (first_uses_distinct bytes_eq same_hash_equality _)
 
   -- its hash was there, and its name goes into the group at its place
   pub more_there : at < length kept.names
       → new.names ≡ set kept.names at (get_or kept.names at [] ++ f.name ∷ [])
       → IsKeptOf (files ++ f ∷ []) new
-  more_there within named = elim (has_place same_hash same_hash_equality f.hash kept.hashes) [
+  more_there within named = elim (has_place bytes_eq same_hash_equality f.hash kept.hashes) [
     | inr h ↦ absurd (omega (arith, within, as_many, placed, h.1))
     | inl h ↦
         let stay : new.hashes ≡ kept.hashes = rw h.0 at inserted in
-        let put = at_key same_hash same_hash_equality (λ h. names_of (having files h)) f.name
+        let put = at_key bytes_eq same_hash_equality (λ h. names_of (having files h)) f.name
         f.hash kept.hashes [] apart h.1 in
         is_kept (files ++ f ∷ []) new kept.hashes hashes_are (sym stay ∙ hashes_are)
         (rw (names_are, placed) at named ∙ put ∙ names_by_more files f kept.hashes)
@@ -126,19 +124,19 @@ module _ (files : List HashedFile) (kept : KeptNames) (is : IsKeptOf files kept)
   -- its hash is new, and so is its group
   pub more_new : length kept.names ≤ at → new.names ≡ kept.names ++ (f.name ∷ []) ∷ []
       → IsKeptOf (files ++ f ∷ []) new
-  more_new past named = elim (has_place same_hash same_hash_equality f.hash kept.hashes) [
+  more_new past named = elim (has_place bytes_eq same_hash_equality f.hash kept.hashes) [
     | inl h ↦ absurd (omega (arith, past, as_many, placed, h.1))
     | inr h ↦
         let grown : new.hashes ≡ kept.hashes ++ f.hash ∷ [] = rw h.0 at inserted in
         let none : Has kept.hashes f.hash → ⊥ =
-        λ m. both_ways _ h.0 (finds same_hash same_hash_equality kept.hashes f.hash m) in
+        λ m. both_ways _ h.0 (finds bytes_eq same_hash_equality kept.hashes f.hash m) in
         let unused : having files f.hash ≡ [] = none_having files f.hash
         (λ m. none (subst (λ (hs : List (List ℕ)). Has hs f.hash) (sym is.hashes)
-        (is_used same_hash same_hash_equality (map (λ file. file.hash) files) f.hash m))) in
+        (is_used bytes_eq same_hash_equality (map (λ file. file.hash) files) f.hash m))) in
         let own : names_of (having (files ++ f ∷ []) f.hash) ≡ f.name ∷ [] =
         rw (each_more files f f.hash, unused, (same_hash_equality f.hash f.hash).1 refl) refl in
         let front : kept.names ≡ map (λ h. names_of (having (files ++ f ∷ []) h)) kept.hashes =
-        names_are ∙ none_at same_hash same_hash_equality (λ h. names_of (having files h)) f.name
+        names_are ∙ none_at bytes_eq same_hash_equality (λ h. names_of (having files h)) f.name
         f.hash kept.hashes none ∙ names_by_more files f kept.hashes in
         is_kept (files ++ f ∷ []) new (kept.hashes ++ f.hash ∷ []) hashes_are
         (sym grown ∙ hashes_are) (rw (

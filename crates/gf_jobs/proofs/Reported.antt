@@ -1,7 +1,8 @@
 -- What was reported, and what failed.
-use Rattle.std.proofs.Common.{◌≡◌, ◌≢◌, Bool, List, ℕ, Result, Ok, Err, IsErrAnd, OnErr, OnOk, arith}
+use Rattle.std.proofs.Common.{◌≡◌, ◌≢◌, Bool, List, ℕ, Result, Ok, Err, IsErrAnd, OnErr, OnOk, arith, true}
 use Rattle.std.proofs.Common.{inl, inr, refl, subst}
 use Rattle.std.specs.Prelude.{⊤, Option}
+use Rattle.std.specs.Result.{result_map_both}
 use Rattle.std.specs.declared.io.Error.{Error}
 use Rattle.gf_run.specs.Streams.{Stream}
 use Rattle.gf_run.specs.Transfers.{IsWriteFault, IsWritten}
@@ -9,7 +10,6 @@ use Rattle.gf_run.specs.declared.fault.RunFault.{RunFault}
 use Rattle.gf_run.specs.declared.fault.Which.{Which}
 use Rattle.gf_jobs.specs.Opening.{Opener, OpensBoth}
 use Rattle.gf_jobs.specs.Performs.{of_fault}
-use Rattle.gf_jobs.specs.inner.Causes.{without_cause}
 use Rattle.gf_jobs.specs.Reports.{IsSent}
 use Rattle.gf_jobs.specs.declared.explain.Failed.{Failed}
 
@@ -38,5 +38,6 @@ opened_as opener first second one other i i' answer is are opens =
 
 -- a failure has this fault
 pub is_failed : (r : Result ⊤ Failed) (fault : RunFault)
-    → IsErrAnd r (λ failed. failed.fault ≡ fault) → without_cause r ≡ Err fault
+    → IsErrAnd r (λ failed. failed.fault ≡ fault)
+    → result_map_both (λ done. true) (λ failed. failed.fault) r ≡ Err fault
 is_failed r fault is = grind arith

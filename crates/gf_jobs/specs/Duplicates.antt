@@ -1,7 +1,7 @@
 -- Which of the files that were read are the same game, and the text that names them.
-use Rattle.std.specs.Prelude.{ℕ, Bool, nat_eq, nat_lt, not, List, [], length, map}
-use Rattle.std.specs.Cmp.Lexicographic.{pointwise}
+use Rattle.std.specs.Prelude.{ℕ, Bool, nat_lt, not, List, [], length, map}
 use Rattle.std.specs.List.{Contains, filter, flat_map, join_by, list_any}
+use Rattle.std.specs.Str.{bytes_eq}
 use Rattle.gf_tree.specs.FiniteMap.{first_uses}
 use Rattle.gf_words.specs.declared.job.LineEnd.{LineEnd}
 use Rattle.gf_jobs.specs.Lines.{end_text, name_line}
@@ -11,17 +11,13 @@ pub record HashedFile : Type 0 where
   pub name : List ℕ
   pub hash : List ℕ
 
--- whether two hashes are equal
-abbrev pub same_hash : List ℕ → List ℕ → Bool
-same_hash = pointwise nat_eq
-
 -- the different hashes of files, in the order of the first files that have them
 abbrev pub hashes_of : List HashedFile → List (List ℕ)
-hashes_of files = first_uses same_hash (map (λ file. file.hash) files)
+hashes_of files = first_uses bytes_eq (map (λ file. file.hash) files)
 
 -- the files that have this hash, in their order
 abbrev pub having : List HashedFile → List ℕ → List HashedFile
-having files hash = filter (λ file. same_hash hash file.hash) files
+having files hash = filter (λ file. bytes_eq hash file.hash) files
 
 -- the files in groups of one hash, a group for each hash
 abbrev pub groups_of : List HashedFile → List (List HashedFile)

@@ -2,7 +2,7 @@
 use Rattle.std.specs.Prelude.{◌≡◌, ◌≢◌, ◌||◌, ℕ, Bool, true, false, not, List, [], ◌∷◌, ◌++◌}
 use Rattle.std.specs.Prelude.{codes, filter, if◌then◌else◌, nat_eq}
 use Rattle.std.specs.BTreeSet.{BTreeSet, contains, insert_key}
-use Rattle.std.specs.List.{AllZip, ends_with, flat_map, list_any, starts_with}
+use Rattle.std.specs.List.{AllZip, ends_with, starts_with}
 use Rattle.std.specs.Ordering.{nat_cmp, ordering_then}
 use Rattle.std.specs.Str.{IsUtf8}
 use Rattle.std.specs.Str.Lossy.{utf8_lossy}
@@ -10,10 +10,12 @@ use Rattle.std.specs.String.{string_bytes}
 use Rattle.std.specs.declared.cmp.Ordering.{Ordering}
 use Rattle.gf_words.specs.GameNames.{is_game_name}
 use Rattle.gf_words.specs.declared.job.Input.{Input}
+use Rattle.gf_jobs.specs.Lines.{after_name}
 use Rattle.gf_jobs.specs.Opening.{Opener}
 use Rattle.gf_jobs.specs.declared.collections.file.CollectionFile.{CollectionFile}
 use Rattle.gf_jobs.specs.declared.collections.kept_files.Fate.{Fate}
 use Rattle.gf_jobs.specs.declared.collections.kept_files.Repeats.{Repeats}
+use Rattle.gf_jobs.specs.declared.collections.kept_files.SoFar.{SoFar}
 use Rattle.gf_jobs.specs.declared.opening.inputs.Found.{Found}
 
 -- ---- paths
@@ -43,17 +45,9 @@ Seen = BTreeSet (ℕ × ℕ)
 abbrev pub by_identity : ℕ × ℕ → ℕ × ℕ → Ordering
 by_identity a b = ordering_then (nat_cmp a.0 b.0) (nat_cmp a.1 b.1)
 
-abbrev pub has_come : Seen → ℕ × ℕ → Bool
-has_come = contains by_identity
-
 -- one more has
 abbrev pub IsOneMore : ℕ × ℕ → Seen → Seen → Type 0
 IsOneMore identity old new = new.keys ≡ insert_key by_identity old.keys identity
-
--- the folders that were opened below a name, and the files that were found, where it matters which
-pub record SoFar : Type 0 where
-  pub folders : Seen
-  pub files : Seen
 
 -- ---- what becomes of what is looked at
 
@@ -62,16 +56,14 @@ abbrev pub kept_if : Bool → Fate
 kept_if is_kept = if is_kept then Fate.Kept else Fate.NoGame
 
 -- what is kept of it
-abbrev pub kept_of : CollectionFile × Fate → List CollectionFile
-kept_of (file, Fate.Kept) = file ∷ []
-kept_of (file, Fate.PassedOver) = []
-kept_of (file, Fate.NoGame) = []
+abbrev pub kept_of : CollectionFile → Fate → List CollectionFile
+kept_of file Fate.Kept = file ∷ []
+kept_of file fate = []
 
 -- whether it counts as a game file, be it new or not
-abbrev pub counts_as_game : CollectionFile × Fate → Bool
-counts_as_game (file, Fate.Kept) = true
-counts_as_game (file, Fate.PassedOver) = true
-counts_as_game (file, Fate.NoGame) = false
+abbrev pub counts_as_game : Fate → Bool
+counts_as_game Fate.NoGame = false
+counts_as_game fate = true
 
 -- A file was found. It is kept if it was named. Below a folder it is kept if it may be a game and, where
 -- repeats are passed over, has not come before.
@@ -80,7 +72,7 @@ abbrev pub IsNoted : Repeats → (named may_be_game : Bool) → (file : ℕ × �
 IsNoted repeats named false file old new fate = (new ≡ old) × (fate ≡ Fate.NoGame)
 IsNoted Repeats.Kept named true file old new fate = (new ≡ old) × (fate ≡ Fate.Kept)
 IsNoted Repeats.PassedOver named true file old new fate = IsOneMore file old new
-    × (fate ≡ if named || not (has_come old file) then Fate.Kept else Fate.PassedOver)
+    × (fate ≡ if named || not (contains by_identity old file) then Fate.Kept else Fate.PassedOver)
 
 -- for what shows which files there are, as it is; `repeats` says whether a file is kept again
 module _ {I S : Type 0} (opener : Opener I S) (i : I) (repeats : Repeats) where
@@ -88,12 +80,12 @@ module _ {I S : Type 0} (opener : Opener I S) (i : I) (repeats : Repeats) where
   pub data Enters (path : List ℕ) (folder : ℕ × ℕ) (old new : Seen)
       : (inside : List CollectionFile) → Fate → Type 0 where
     -- it is not opened again
-    again : has_come old folder ≡ true → new.keys ≡ old.keys
+    again : contains by_identity old folder ≡ true → new.keys ≡ old.keys
         → Enters path folder old new [] Fate.NoGame
     -- what is in it is looked at next; it is kept if its names are not all known, and then cannot be
     -- read either
     first : (names : List (List ℕ)) (is_whole : Bool) (inside : List CollectionFile)
-        → has_come old folder ≡ false → IsOneMore folder old new
+        → contains by_identity old folder ≡ false → IsOneMore folder old new
         → opener.listed i (folder_at path) names is_whole → AreIn (folder_at path) names inside
         → Enters path folder old new inside (kept_if (not is_whole))
 
@@ -118,45 +110,41 @@ module _ {I S : Type 0} (opener : Opener I S) (i : I) (repeats : Repeats) where
       × LooksAtPath named (string_bytes path) found old new inside fate
   LooksAt named file old new inside fate = (new ≡ old) × (inside ≡ []) × (fate ≡ Fate.Kept)
 
-  mutual
-    -- what is met at a file: the file, and then what is below it
-    pub data IsMet : (named : Bool) → CollectionFile → (old new : SoFar)
-        → List (CollectionFile × Fate) → Type 0 where
-      first_of : (named : Bool) (file : CollectionFile) (inside : List CollectionFile)
-          (old opened new : SoFar) (fate : Fate) (below : List (CollectionFile × Fate))
-          → LooksAt named file old opened inside fate → AreMet inside opened new below
-          → IsMet named file old new ((file, fate) ∷ below)
-
-    -- what is met at files, at one after another
-    pub data AreMet : List CollectionFile → (old new : SoFar) → List (CollectionFile × Fate)
-        → Type 0 where
-      none : (before : SoFar) → AreMet [] before before []
-      next : (file : CollectionFile) (files : List CollectionFile) (old mid new : SoFar)
-          (own others : List (CollectionFile × Fate)) → IsMet false file old mid own
-          → AreMet files mid new others → AreMet (file ∷ files) old new (own ++ others)
+  -- what is met at files, at one after another, and in each folder before the file after it: the files
+  -- that are kept, and whether any counts as a game file; `named` says whether the first was named
+  -- itself
+  pub data AreMet : (named : Bool) → List CollectionFile → (old new : SoFar)
+      → (kept : List CollectionFile) → (some : Bool) → Type 0 where
+    none : (named : Bool) (before : SoFar) → AreMet named [] before before [] false
+    next : (named : Bool) (file : CollectionFile) (files inside kept : List CollectionFile)
+        (old mid new : SoFar) (fate : Fate) (some : Bool) → LooksAt named file old mid inside fate
+        → AreMet false (inside ++ files) mid new kept some
+        → AreMet named (file ∷ files) old new (kept_of file fate ++ kept)
+        (counts_as_game fate || some)
 
   -- what a name leads to: files, and whether any counts as a game file
-  pub data LeadsTo (name : List ℕ) (old new : Seen) : List CollectionFile → Bool → Type 0 where
+  pub data LeadsTo (name : List ℕ) (old new : Seen) (kept : List CollectionFile) (some : Bool)
+      : Type 0 where
     -- `-` is standard input
-    is_standard : name ≡ codes "-" → new ≡ old
-        → LeadsTo name old new (CollectionFile.Input Input.Standard ∷ []) true
+    is_standard : name ≡ codes "-" → new ≡ old → kept ≡ CollectionFile.Input Input.Standard ∷ []
+        → some ≡ true → LeadsTo name old new kept some
     -- any other is a path: what is met there, and below it
-    is_path : (file : CollectionFile) (first last : SoFar) (met : List (CollectionFile × Fate))
-        → name ≢ codes "-" → HasPath name file → first.folders.keys ≡ [] → first.files ≡ old
-        → IsMet true file first last met → new ≡ last.files
-        → LeadsTo name old new (flat_map kept_of met) (list_any counts_as_game met)
+    is_path : (file : CollectionFile) (first last : SoFar) → name ≢ codes "-" → HasPath name file
+        → first.folders.keys ≡ [] → first.files ≡ old
+        → AreMet true (file ∷ []) first last kept some → new ≡ last.files
+        → LeadsTo name old new kept some
 
-  -- what names lead to: the files of each after those of the names before it, and the names that
-  -- have none, which are reported
-  pub data AreLedTo : (names : List (List ℕ)) → Seen → List CollectionFile
-      → (without : List (List ℕ)) → Type 0 where
+  -- what names lead to: the files of each after those of the names before it, and what is reported, a
+  -- line for each name that has none
+  pub data AreLedTo : (names : List (List ℕ)) → Seen → List CollectionFile → (report : List ℕ)
+      → Type 0 where
     none : (seen : Seen) → seen.keys ≡ [] → AreLedTo [] seen [] []
     one_more : (names : List (List ℕ)) (name : List ℕ) (old new : Seen)
-        (files own : List CollectionFile) (without : List (List ℕ)) (some : Bool)
-        → AreLedTo names old files without → LeadsTo name old new own some
-        → AreLedTo (names ++ name ∷ []) new (files ++ own)
-        (without ++ (if some then [] else utf8_lossy name ∷ []))
+        (files own : List CollectionFile) (report : List ℕ) (some : Bool)
+        → AreLedTo names old files report → LeadsTo name old new own some
+        → AreLedTo (names ++ name ∷ []) new (files ++ own) (report
+        ++ (if some then [] else after_name (utf8_lossy name) (codes "no game files\n")))
 
-  -- the files of these names, and the names that have none
-  abbrev pub AreFilesOf : List (List ℕ) → List CollectionFile → (without : List (List ℕ)) → Type 0
-  AreFilesOf names files without = (seen : Seen) × AreLedTo names seen files without
+  -- the files of these names, and what is reported of them
+  abbrev pub AreFilesOf : List (List ℕ) → List CollectionFile → (report : List ℕ) → Type 0
+  AreFilesOf names files report = (seen : Seen) × AreLedTo names seen files report

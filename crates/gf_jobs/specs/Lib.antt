@@ -5,5 +5,4 @@ pub mod Listed
 pub mod Opening
 pub mod Performs
 pub mod Reports
-pub mod Wrapped
 pub mod inner

@@ -37,19 +37,12 @@ abbrev pub byte_text : ℕ → List ℕ
 byte_text byte = if nat_eq byte 10 then codes "\\n" else if nat_eq byte 13 then codes "\\r"
     else if nat_eq byte 92 then codes "\\\\" else byte ∷ []
 
--- a name: in a line that NUL ends, as it is
-abbrev pub name_text : LineEnd → List ℕ → List ℕ
-name_text LineEnd.LineFeed name = flat_map byte_text name
-name_text LineEnd.Null name = name
-
--- what the line of a name begins with: a backslash, if a byte of the name is escaped
-abbrev pub mark : LineEnd → List ℕ → List ℕ
-mark LineEnd.LineFeed name = if list_any is_escaped name then codes "\\" else []
-mark LineEnd.Null name = []
-
--- the line of a name, after a text that stands before it
+-- The line of a name, after a text that stands before it. If a byte of the name is escaped, the line
+-- begins with a backslash; in a line that NUL ends the name stands as it is.
 abbrev pub name_line : LineEnd → List ℕ → List ℕ → List ℕ
-name_line end before name = mark end name ++ before ++ name_text end name ++ end_text end
+name_line LineEnd.LineFeed before name = (if list_any is_escaped name then codes "\\" else [])
+    ++ before ++ flat_map byte_text name ++ codes "\n"
+name_line LineEnd.Null before name = before ++ name ++ 0 ∷ []
 
 -- a text after the name of its file, as it is shown
 abbrev pub after_name : List ℕ → List ℕ → List ℕ

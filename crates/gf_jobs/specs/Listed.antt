@@ -1,5 +1,5 @@
 -- The names in a list of files.
-use Rattle.std.specs.Prelude.{ℕ, List, [], ◌∷◌, if◌then◌else◌, nat_eq}
+use Rattle.std.specs.Prelude.{ℕ, List, [], ◌∷◌, filter, if◌then◌else◌, length, nat_eq, nat_lt}
 use Rattle.std.specs.Io.BufRead.{strip_last}
 use Rattle.std.specs.List.{flat_map, onto_first}
 use Rattle.gf_words.specs.declared.job.LineEnd.{LineEnd}
@@ -15,15 +15,10 @@ lines_of byte [] = []
 lines_of byte (x ∷ xs) =
     if nat_eq x byte then [] ∷ lines_of byte xs else onto_first x (lines_of byte xs)
 
--- a name, unless it is empty
-abbrev pub unless_empty : List ℕ → List (List ℕ)
-unless_empty [] = []
-unless_empty name = name ∷ []
-
 -- the name in a line, if it has one: where line feeds end lines, a carriage return at the end is left
 -- out, and an empty line has no name
 abbrev pub name_in : LineEnd → List ℕ → List (List ℕ)
-name_in LineEnd.LineFeed line = unless_empty (strip_last 13 line)
+name_in LineEnd.LineFeed line = filter (λ name. nat_lt 0 (length name)) (strip_last 13 line ∷ [])
 name_in LineEnd.Null line = line ∷ []
 
 -- the names in a list

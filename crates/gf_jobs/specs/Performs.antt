@@ -1,8 +1,7 @@
 -- What the program does for each job, and for the files of a collection one after another.
 use Rattle.std.specs.Prelude.{◌≡◌, ◌≢◌, ◌⊎◌, ℕ, Bool, max, List, [], ◌∷◌, ◌++◌, Option, Some, None}
-use Rattle.std.specs.Prelude.{Result, Ok, Err, IsOk, ⊤, true, false, codes, if◌then◌else◌, map}
+use Rattle.std.specs.Prelude.{Result, Ok, Err, IsOk, true, false, codes, if◌then◌else◌, map}
 use Rattle.std.specs.Prelude.{IfSome, MatchResult}
-use Rattle.std.specs.List.{flat_map}
 use Rattle.std.specs.String.{string_bytes}
 use Rattle.std.specs.IoError.{error_kind}
 use Rattle.std.specs.declared.io.Error.{Error}
@@ -14,7 +13,6 @@ use Rattle.gf_token.specs.declared.names.Names.{Names}
 use Rattle.gf_form.specs.declared.forms.Strategies.{Strategies}
 use Rattle.gf_words.specs.declared.job.Input.{Input}
 use Rattle.gf_words.specs.declared.job.Job.{Job}
-use Rattle.gf_words.specs.declared.job.LineEnd.{LineEnd}
 use Rattle.gf_words.specs.declared.job.Paths.{Paths}
 use Rattle.gf_jobs.specs.Duplicates.{are_apart, duplicates, groups_text, HashedFile}
 use Rattle.gf_run.specs.Faults.{IsRefusal, answer_status, is_of_second}
@@ -22,13 +20,12 @@ use Rattle.gf_run.specs.Transfers.{IsNotRead, IsReadWhole}
 use Rattle.gf_jobs.specs.LedTo.{AreFilesOf}
 use Rattle.gf_jobs.specs.Listed.{names_in}
 use Rattle.gf_jobs.specs.Opening.{Opener, Opens, OpensBoth, OpensFile, file_named, file_of}
+use Rattle.gf_jobs.specs.Opening.{bytes_kept, kept_at_first, kept_reader, source_of}
 use Rattle.gf_jobs.specs.Reports.{Ends, IsReported, IsSent, IsNamedReport, called, name_of}
 use Rattle.gf_run.specs.Run.{Reads, RunsTwo, Writes}
 use Rattle.gf_jobs.specs.Lines.{ReadsHash, RunsLine, RunsOne}
 use Rattle.gf_run.specs.Streams.{Stream}
 use Rattle.gf_run.specs.Texts.{AreCanonical, IsAnswer, IsLine, IsLineAndMap}
-use Rattle.gf_jobs.specs.Lines.{after_name}
-use Rattle.gf_jobs.specs.Wrapped.{bytes_kept, kept_at_first, kept_reader, source_of}
 use Rattle.gf_jobs.specs.declared.collections.file.CollectionFile.{CollectionFile}
 use Rattle.gf_jobs.specs.declared.collections.kept_files.Repeats.{Repeats}
 use Rattle.gf_jobs.specs.declared.collections.line.FileLine.{FileLine}
@@ -48,6 +45,12 @@ pub record World (I W E : Type 0) : Type 0 where
 -- what a session works with, as it is
 abbrev pub world_of : {I P W E : Type 0} → Session I P W E → World I W E
 world_of s = record { inputs = s.inputs.now; output = s.output.now; errors = s.errors.now }
+
+-- the same with the files that have a hash so far, in their order, beside the output
+abbrev pub with_hashed : {I W E : Type 0} → List HashedFile → World I W E
+    → World I (W × List HashedFile) E
+with_hashed files a =
+    record { inputs = a.inputs; output = (a.output, files); errors = a.errors }
 
 -- a session works with the same ones, and explains faults or not as before
 abbrev pub IsSame : {I P W E : Type 0} → Session I P W E → Session I P W E → Type 0
@@ -77,20 +80,17 @@ module _ {I S W E A : Type 0} (opener : Opener I S) (explain : Bool)
 
 -- ---- one file after another
 
--- `Step` says what is done with a file, and with which status, `Stop` the same of one after which
--- the run ends, and `Close` what is done after the last one.
-module _ {A B : Type 0} (Step : CollectionFile → ℕ → A → A → Type 0)
-    (Stop : CollectionFile → ℕ → A → B → Type 0) (Close : ℕ → A → B → Type 0) where
+-- `Next` says what is done with a file, whether the run ends with it, and with which status, and `Close`
+-- what is done after the last one.
+module _ {A : Type 0} (Next : (ends : Bool) → CollectionFile → ℕ → A → A → Type 0)
+    (Close : ℕ → A → A → Type 0) where
   -- the status is the worst of all
-  abbrev pub GoesOver : List CollectionFile → ℕ → ℕ → A → B → Type 0
+  abbrev pub GoesOver : List CollectionFile → ℕ → ℕ → A → A → Type 0
   GoesOver [] worst status a b = (own : ℕ) × Close own a b × (status ≡ max worst own)
   GoesOver (file ∷ files) worst status a b =
-      ((own : ℕ) × Stop file own a b × (status ≡ max worst own))
-      ⊎ ((own : ℕ) × (mid : A) × Step file own a mid × GoesOver files (max worst own) status mid b)
-
--- nothing is done after the last file
-abbrev pub Stays : {A : Type 0} → ℕ → A → A → Type 0
-Stays status a b = (status ≡ 0) × (b ≡ a)
+      ((own : ℕ) × Next true file own a b × (status ≡ max worst own))
+      ⊎ ((own : ℕ) × (mid : A) × Next false file own a mid
+      × GoesOver files (max worst own) status mid b)
 
 -- ---- a text in the place of each file
 
@@ -101,19 +101,20 @@ IsUnreplaced error fault = (error_kind error ≡ ErrorKind.OutOfMemory → fault
 
 -- for what opens inputs and replaces files
 module _ {I S : Type 0} (opener : Opener I S) where
-  -- a text was put in the place of a file, if it could be; standard input has no place
-  abbrev pub IsReplacedBy : CollectionFile → List ℕ → Result ⊤ RunFault → I → I → Type 0
-  IsReplacedBy (CollectionFile.Input (Input.File name)) text (Ok done) i i' =
-      opener.replaced i (string_bytes name) text (Ok done) i'
+  -- a text was put in the place of a file, if it could be, and nothing is against this file then;
+  -- standard input has no place
+  abbrev pub IsReplacedBy : CollectionFile → List ℕ → Result Bool RunFault → I → I → Type 0
+  IsReplacedBy (CollectionFile.Input (Input.File name)) text (Ok good) i i' =
+      (good ≡ true) × opener.replaced i (string_bytes name) text (Ok tt) i'
   IsReplacedBy (CollectionFile.Input (Input.File name)) text (Err fault) i i' = (error : Error)
       × opener.replaced i (string_bytes name) text (Err error) i' × IsUnreplaced error fault
   IsReplacedBy file text result i i' = (result ≡ Err RunFault.Write) × (i' ≡ i)
 
   -- what is done about a file that has these bytes
   pub data IsRewritten (names : Names) (file : CollectionFile) (i i' : I) (bytes : List ℕ)
-      (result : Result ⊤ RunFault) : Type 0 where
+      (result : Result Bool RunFault) : Type 0 where
     -- they are its canonical text, and it stays as it is
-    canonical : (done : ⊤) → result ≡ Ok done → AreCanonical names bytes true → i' ≡ i
+    canonical : result ≡ Ok true → AreCanonical names bytes true → i' ≡ i
         → IsRewritten names file i i' bytes result
     -- they are not, and the text was put in their place, if it could be
     replaced : (text : List ℕ) → AreCanonical names bytes false → IsTextBy names bytes text
@@ -123,66 +124,10 @@ module _ {I S : Type 0} (opener : Opener I S) where
         → IsRewritten names file i i' bytes result
 
   -- it is read whole for that
-  abbrev pub Rewrites : Stream S → Names → CollectionFile → Result ⊤ RunFault → Kept S → Kept S
+  abbrev pub Rewrites : Stream S → Names → CollectionFile → Result Bool RunFault → Kept S → Kept S
       → I → I → Type 0
   Rewrites reader names file result s s' i i' = Reads (IsReadWhole (kept_reader reader))
       (IsNotRead (kept_reader reader) Which.Only) (IsRewritten names file i i') (i' ≡ i) result s s'
-
--- ---- which files are the same game
-
--- the same world with this in place of the output; while files are read for duplicates, that is the
--- list of those that have a hash, in their order
-abbrev pub with_output : {I V W E : Type 0} → W → World I V E → World I W E
-with_output output a = record { inputs = a.inputs; output = output; errors = a.errors }
-
--- the files that have a hash, after one more file
-abbrev pub with_hash : CollectionFile → Result (List ℕ) RunFault → List HashedFile
-    → List HashedFile
-with_hash file (Ok hash) files = files ++ record { name = name_of file; hash = hash } ∷ []
-with_hash file (Err why) files = files
-
-module _ {I S E : Type 0} (opener : Opener I S) (reader : Stream S) (errors : Stream E)
-    (explain : Bool) (names : Names) where
-  -- a file has its canonical text; or its fault was reported
-  abbrev pub RewritesNext : {W : Type 0} → CollectionFile → ℕ → World I W E → World I W E → Type 0
-  RewritesNext file = Over opener explain
-      (λ result s s' i i' o o'. (o' ≡ o) × Rewrites opener reader names file result s s' i i')
-      (Ends (IsNamedReport errors (name_of file)) (λ done. 0)) file
-
-  abbrev pub RewritesAll : {W : Type 0} → List CollectionFile → ℕ → World I W E → World I W E
-      → Type 0
-  RewritesAll files = GoesOver RewritesNext (λ file status a b. ⊥) Stays files 0
-
-  -- the run over one file, and what stands in the place of the output after it
-  abbrev pub Hashes : {W : Type 0} → (Result (List ℕ) RunFault → W → W) → Result (List ℕ) RunFault
-      → Kept S → Kept S → I → I → W → W → Type 0
-  Hashes after result s s' i i' o o' =
-      (i' ≡ i) × (o' ≡ after result o) × ReadsHash (kept_reader reader) names result s s'
-
-  -- it has a hash; or it has none, and its fault was reported
-  abbrev pub HashesNext : CollectionFile → ℕ → World I (List HashedFile) E
-      → World I (List HashedFile) E → Type 0
-  HashesNext file = Over opener explain (Hashes (with_hash file))
-      (Ends (IsNamedReport errors (name_of file)) (λ hash. 0)) file
-
-  -- it has one, but memory for it ran out, which was reported, and nothing was written
-  abbrev pub IsOutOfMemory : {W : Type 0} → W → CollectionFile → ℕ → World I (List HashedFile) E
-      → World I W E → Type 0
-  IsOutOfMemory output file status a b = Over opener explain (Hashes (λ result o. o))
-      (λ result kept status e e'. IsOk result
-      × IsReported errors (name_of file) None RunFault.Memory status e e')
-      file status (with_output output a) b
-
--- after all files: their groups were written, unless the writer failed or memory ran out, which was
--- reported
-abbrev pub WritesGroups : {I W E : Type 0} → Stream W → Stream E → Bool → LineEnd → W → ℕ
-    → World I (List HashedFile) E → World I W E → Type 0
-WritesGroups writer errors explain end output status a b = (result : Result Bool RunFault)
-    × (b.inputs ≡ a.inputs) × Writes writer (λ apart text. (apart ≡ are_apart a.output)
-    × (text ≡ groups_text end (duplicates a.output))) (λ why. why ≡ RunFault.Memory)
-    result output b.output
-    × Ends (IsReported errors []) answer_status result (kept_at_first explain) status
-    a.errors b.errors
 
 -- ---- over two files
 
@@ -198,25 +143,22 @@ abbrev pub repeats_of : Task → Repeats
 repeats_of (Task.Duplicates names end) = Repeats.PassedOver
 repeats_of task = Repeats.Kept
 
--- for what opens inputs, and what an input reports: which names a collection has, and what is opened to
--- learn them
+-- for what opens inputs, and what an input reports: which names a collection has, or why they are not
+-- known, and what is opened to learn them
 module _ {I S : Type 0} (opener : Opener I S) (reader : Stream S) where
-  -- the names that were given, or `-` if there are none; or the names in a list, which is opened once,
-  -- if the bytes of this list are known
-  abbrev pub AreNames : Paths → List (List ℕ) → I → I → Type 0
-  AreNames Paths.Standard names i i' = (names ≡ codes "-" ∷ []) × (i' ≡ i)
-  AreNames (Paths.Named words) names i i' = (names ≡ map string_bytes words.items) × (i' ≡ i)
-  AreNames (Paths.List list end) names i i' = (s : S) × Opens opener (file_of list) i (Ok s) i'
-      × IfSome (reader.known s) (λ bytes. names ≡ names_in end bytes)
-
--- for what opens inputs: why the files may not be known. Memory ran out; or a list, which is opened
--- once, could not be opened, or was opened and is said not to be read.
-abbrev pub IsUnlisted : {I S : Type 0} → Opener I S → Paths → RunFault → I → I → Type 0
-IsUnlisted {S = S} opener (Paths.List list end) fault i i' = (answer : Result S Error)
-    × Opens opener (file_of list) i answer i' × MatchResult answer
-    (λ s. (fault ≡ RunFault.Memory) ⊎ (fault ≡ RunFault.Read Which.Only))
-    (λ error. fault ≡ RunFault.Read Which.Only)
-IsUnlisted opener paths fault i i' = (fault ≡ RunFault.Memory) × (i' ≡ i)
+  -- the names that were given, or `-` if there are none, unless memory ran out; or those in a list, which
+  -- is opened once, if the bytes of this list are known, unless memory ran out, the list could not be
+  -- opened, or it is said not to be read
+  abbrev pub AreNames : Paths → Result (List (List ℕ)) RunFault → I → I → Type 0
+  AreNames Paths.Standard result i i' = (i' ≡ i)
+      × MatchResult result (λ names. names ≡ codes "-" ∷ []) (λ fault. fault ≡ RunFault.Memory)
+  AreNames (Paths.Named words) result i i' = (i' ≡ i) × MatchResult result
+      (λ names. names ≡ map string_bytes words.items) (λ fault. fault ≡ RunFault.Memory)
+  AreNames (Paths.List list end) result i i' = (answer : Result S Error)
+      × Opens opener (file_of list) i answer i' × MatchResult answer
+      (λ s. MatchResult result (λ names. IfSome (reader.known s) (λ bytes. names ≡ names_in end bytes))
+      (λ fault. (fault ≡ RunFault.Memory) ⊎ (fault ≡ RunFault.Read Which.Only)))
+      (λ error. result ≡ Err (RunFault.Read Which.Only))
 
 -- It was reported why no file is opened: a list could not be read, which is said after its name, and
 -- explained if `explain` is true; or memory ran out.
@@ -224,10 +166,6 @@ abbrev pub IsListReport : {E : Type 0} → Stream E → Bool → RunFault → Pa
 IsListReport errors explain (RunFault.Read which) (Paths.List list end) =
     IsNamedReport errors (called (codes "-") list) (kept_at_first explain) (RunFault.Read which)
 IsListReport errors explain fault paths = IsReported errors [] None fault
-
--- what is said of folders that have no game files: a line for each
-abbrev pub without_games : List (List ℕ) → List ℕ
-without_games folders = flat_map (λ folder. after_name folder (codes "no game files\n")) folders
 
 -- ---- by the job
 
@@ -267,52 +205,66 @@ module _ {I S W E : Type 0} (opener : Opener I S) (reader : Stream S) (writer : 
         (of_fault result (bytes_kept s') (bytes_kept t')) status a.errors b.errors
         → PerformsTwo map names first second status a b
 
-  -- the run over one of several files
-  abbrev pub WritesLine : FileLine → CollectionFile → Result Bool RunFault → Kept S → Kept S
-      → I → I → W → W → Type 0
-  WritesLine line file result s s' i i' o o' =
-      (i' ≡ i) × RunsLine (kept_reader reader) writer line (name_of file) result s s' o o'
+  -- the run over one of several files, by what is done with them; beside the output stand the files that
+  -- have a hash so far, in their order
+  abbrev pub RunsNext : Task → CollectionFile → Result Bool RunFault → Kept S → Kept S → I → I
+      → W × List HashedFile → W × List HashedFile → Type 0
+  RunsNext (Task.Lines line) file result s s' i i' o o' = (i' ≡ i) × (o'.1 ≡ o.1)
+      × RunsLine (kept_reader reader) writer line (name_of file) result s s' o.0 o'.0
+  RunsNext (Task.Rewrites names) file result s s' i i' o o' =
+      (o' ≡ o) × Rewrites opener reader names file result s s' i i'
+  RunsNext (Task.Duplicates names end) file result s s' i i' o o' = (i' ≡ i) × (o'.0 ≡ o.0)
+      × ((hash : Result (List ℕ) RunFault) × ReadsHash (kept_reader reader) names hash s s'
+      × MatchResult hash (λ hash. (result ≡ Ok true)
+      × (o'.1 ≡ o.1 ++ record { name = name_of file; hash = hash } ∷ []))
+      (λ fault. (result ≡ Err fault) × (o'.1 ≡ o.1)))
 
-  -- its line was written, which gives the status 1 if something is against the file; or its fault
-  -- was reported
-  abbrev pub WritesNext : FileLine → CollectionFile → ℕ → World I W E → World I W E → Type 0
-  WritesNext line file = Over opener explain (WritesLine line file)
-      (λ result kept status e e'. (result ≢ Err RunFault.Write)
-      × Ends (IsNamedReport errors (name_of file)) answer_status result kept status e e') file
+  -- how it ends with a file. The run goes on if the file has its line, which gives the status 1 if
+  -- something is against it, its canonical text or a hash; or if its fault was reported. The run ends if
+  -- the writer failed, or if memory for a hash ran out, which was reported.
+  abbrev pub EndsNext : (ends : Bool) → Task → CollectionFile → Result Bool RunFault
+      → Option (List ℕ) → ℕ → E → E → Type 0
+  EndsNext false task file result kept status e e' =
+      ((line : FileLine) → task ≡ Task.Lines line → result ≢ Err RunFault.Write)
+      × Ends (IsNamedReport errors (name_of file)) answer_status result kept status e e'
+  EndsNext true (Task.Lines line) file result kept status e e' = (result ≡ Err RunFault.Write)
+      × IsReported errors (name_of file) kept RunFault.Write status e e'
+  EndsNext true (Task.Rewrites names) file result kept status e e' = ⊥
+  EndsNext true (Task.Duplicates names end) file result kept status e e' =
+      IsOk result × IsReported errors (name_of file) None RunFault.Memory status e e'
 
-  -- the writer failed, which was reported
-  abbrev pub IsCutOff : FileLine → CollectionFile → ℕ → World I W E → World I W E → Type 0
-  IsCutOff line file = Over opener explain (WritesLine line file)
-      (λ result kept status e e'. (result ≡ Err RunFault.Write)
-      × IsReported errors (name_of file) kept RunFault.Write status e e') file
+  abbrev pub DoesNext : Task → (ends : Bool) → CollectionFile → ℕ
+      → World I (W × List HashedFile) E → World I (W × List HashedFile) E → Type 0
+  DoesNext task ends file = Over opener explain (RunsNext task file) (EndsNext ends task file) file
 
-  abbrev pub WritesAll : FileLine → List CollectionFile → ℕ → World I W E → World I W E → Type 0
-  WritesAll line files = GoesOver (WritesNext line) (IsCutOff line) Stays files 0
-
-  -- which files are the same game: none has a hash at first
-  abbrev pub FindsAll : Names → LineEnd → List CollectionFile → ℕ → World I W E → World I W E
+  -- after all files: the groups of those that are the same game were written, unless the writer failed or
+  -- memory ran out, which was reported; for another task nothing is done
+  abbrev pub Closes : Task → ℕ → World I (W × List HashedFile) E → World I (W × List HashedFile) E
       → Type 0
-  FindsAll names end files status a b = GoesOver (HashesNext opener reader errors explain names)
-      (IsOutOfMemory opener reader errors explain names a.output)
-      (WritesGroups writer errors explain end a.output) files 0 status (with_output [] a) b
+  Closes (Task.Duplicates names end) status a b = (result : Result Bool RunFault)
+      × (b.inputs ≡ a.inputs) × Writes writer (λ apart text. (apart ≡ are_apart a.output.1)
+      × (text ≡ groups_text end (duplicates a.output.1))) (λ why. why ≡ RunFault.Memory)
+      result a.output.0 b.output.0
+      × Ends (IsReported errors []) answer_status result (kept_at_first explain) status
+      a.errors b.errors
+  Closes task status a b = (status ≡ 0) × (b ≡ a)
 
-  -- the task of several files
+  -- the task of several files: none has a hash at first
   abbrev pub Does : Task → List CollectionFile → ℕ → World I W E → World I W E → Type 0
-  Does (Task.Lines line) = WritesAll line
-  Does (Task.Duplicates names end) = FindsAll names end
-  Does (Task.Rewrites names) = RewritesAll opener reader errors explain names
+  Does task files status a b = (hashed : List HashedFile) × GoesOver (DoesNext task) (Closes task)
+      files 0 status (with_hashed [] a) (with_hashed hashed b)
 
   pub data PerformsAll (task : Task) (paths : Paths) (status : ℕ) (a b : World I W E)
       : Type 0 where
     -- the files are found, before any of them is opened; folders that were named and have none are
     -- reported, as far as the writer allowed; and the task was done for the files
-    found : (names : List (List ℕ)) (files : List CollectionFile) (folders : List (List ℕ))
-        (mid : World I W E) → AreNames opener reader paths names a.inputs mid.inputs
-        → mid.output ≡ a.output → AreFilesOf opener mid.inputs (repeats_of task) names files folders
-        → IsSent errors (without_games folders) a.errors mid.errors
+    found : (names : List (List ℕ)) (files : List CollectionFile) (report : List ℕ)
+        (mid : World I W E) → AreNames opener reader paths (Ok names) a.inputs mid.inputs
+        → mid.output ≡ a.output → AreFilesOf opener mid.inputs (repeats_of task) names files report
+        → IsSent errors report a.errors mid.errors
         → Does task files status mid b → PerformsAll task paths status a b
     -- they are not, or memory for that report ran out, which was reported
-    unlisted : (fault : RunFault) → IsUnlisted opener paths fault a.inputs b.inputs
+    unlisted : (fault : RunFault) → AreNames opener reader paths (Err fault) a.inputs b.inputs
         → b.output ≡ a.output
         → IsListReport errors explain fault paths status a.errors b.errors
         → PerformsAll task paths status a b

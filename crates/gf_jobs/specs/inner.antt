@@ -1,3 +1,2 @@
 -- Definitions that only proofs and private contracts use.
-pub mod Causes
 pub mod KeptNames

@@ -8,7 +8,7 @@ ghost use Rattle.gf_jobs.specs.Duplicates.{AreInOneGroup, HashedFile};
 ghost use Rattle.gf_jobs.specs.LedTo.{folder_at};
 ghost use Rattle.gf_jobs.specs.Listed.{names_in};
 ghost use Rattle.gf_run.specs.Transfers.{IsReadWhole};
-ghost use Rattle.gf_jobs.specs.Wrapped.{bytes_kept, kept_reader};
+ghost use Rattle.gf_jobs.specs.Opening.{bytes_kept, kept_reader};
 ghost use Rattle.gf_jobs.specs.declared.opening.kept.Kept.{Kept};
 
 use gf_run::Source;

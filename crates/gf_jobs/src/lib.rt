@@ -18,6 +18,7 @@ pub use collections::progress::{Progress, Shown};
 pub use explain::{Cause, Failed};
 pub use jobs::ending::{answer, report};
 pub use jobs::job::perform;
+pub use jobs::many_files::Task;
 pub use jobs::session::Session;
 pub use opening::inputs::{Found, Identity, Inputs, Listing};
 pub use opening::kept::Kept;

@@ -5,7 +5,8 @@ use Rattle.std.proofs.Common.{take-append-drop}
 use Rattle.std.proofs.KnownBytes.{Appends-nil, Appends-trans, Keeps-refl, Keeps-trans}
 use Rattle.std.proofs.lemmas.List.{take_all}
 use Rattle.std.specs.Io.KnownBytes.{Appends, Keeps}
-use Rattle.gf_run.specs.Streams.{HasRisen, Interruptions, IsInterrupted, Moves, Stream, more}
+use Rattle.std.specs.declared.io.ErrorKind.{ErrorKind}
+use Rattle.gf_run.specs.Streams.{HasRisen, Interruptions, IsError, Moves, Stream, more}
 use Rattle.gf_run.specs.Streams.{next_count, none}
 use Rattle.gf_run.specs.Transfers.{IsBegun, IsNext, IsOffer, IsWriteFault, Stops}
 
@@ -27,7 +28,7 @@ module _ {S : Type 0} (stream : Stream S) (P : List ℕ → Type 0) where
   -- one more interruption
   pub asked_again : (n : ℕ) (old mid new : S) → IsAskedAgain n old mid
       → Keeps (stream.known mid) (stream.known new)
-      → stream.count new ≡ next_count (stream.count mid) → IsInterrupted stream.gives P mid new
+      → stream.count new ≡ next_count (stream.count mid) → IsError stream.gives P (λ kind. kind ≡ ErrorKind.Interrupted) mid new
       → IsAskedAgain (n + 1) old new
   unfolding Interruptions
   asked_again n old mid new before kept next last = grind (arith, Keeps-trans, add-one)

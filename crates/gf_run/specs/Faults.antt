@@ -2,14 +2,15 @@
 -- status, and its line on standard error.
 use Rattle.std.specs.Prelude.{◌≡◌, ℕ, Bool, true, false, List, [], ◌++◌, codes}
 use Rattle.gf_token.specs.declared.fault.Why.{Why}
+use Rattle.gf_tree.specs.Game.{Game}
 use Rattle.gf_canon.specs.CanonicalText.{SpellsWithin}
 use Rattle.gf_canon.specs.GameFile.{GameFile}
 use Rattle.gf_canon.specs.Judgement.{IsRefusedWith, MeansFile}
 use Rattle.gf_canon.specs.declared.sameness.SameFault.{SameFault}
 use Rattle.gf_token.specs.declared.form_fault.FormFault.{FormFault}
+use Rattle.gf_form.specs.Forms.{IsWithoutForm}
 use Rattle.gf_form.specs.declared.forms.Strategies.{Strategies}
 use Rattle.gf_explain.specs.FaultLine.{form_text, place_text}
-use Rattle.gf_run.specs.Texts.{IsFileWithoutForm}
 use Rattle.gf_run.specs.declared.fault.RunFault.{RunFault}
 use Rattle.gf_run.specs.declared.fault.Which.{Which}
 
@@ -46,7 +47,7 @@ IsFaultOfFile bytes fault = IsRefusal bytes fault
 abbrev pub IsFaultOfBytes : Strategies → List ℕ → RunFault → Type 0
 IsFaultOfBytes strategies bytes (RunFault.Form FormFault.Memory) = ⊥
 IsFaultOfBytes strategies bytes (RunFault.Form fault) =
-    (x : GameFile) × SpellsWithin bytes x × IsFileWithoutForm strategies x fault
+    (g : Game) × SpellsWithin bytes (GameFile.extensive g) × IsWithoutForm strategies g fault
 IsFaultOfBytes strategies bytes fault = IsFaultOfFile bytes fault
 
 -- Of two inputs: the first is refused; or it is not, and the second is; or both mean files, and

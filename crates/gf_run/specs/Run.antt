@@ -1,5 +1,6 @@
 -- What a run does: it reads its inputs whole, and then writes the text that answers their bytes.
 use Rattle.std.specs.Prelude.{◌≡◌, ◌⊎◌, Bool, ℕ, List, Result, Ok, Err, ⊤}
+use Rattle.gf_canon.specs.KindOfFile.{MeansFileOf}
 use Rattle.gf_canon.specs.NamesAside.{IsTextBy}
 use Rattle.gf_canon.specs.declared.kind.FileKind.{FileKind}
 use Rattle.gf_token.specs.declared.names.Names.{Names}
@@ -7,7 +8,7 @@ use Rattle.gf_form.specs.declared.forms.Strategies.{Strategies}
 use Rattle.gf_run.specs.Faults.{IsFaultOfBytes, IsFaultOfFiles, IsRefusal}
 use Rattle.gf_run.specs.Transfers.{IsNotRead, IsReadWhole, IsWriteFault, IsWritten}
 use Rattle.gf_run.specs.Streams.{Stream}
-use Rattle.gf_run.specs.Texts.{IsFormText, IsKindLine}
+use Rattle.gf_run.specs.Texts.{IsFormText, kind_line}
 use Rattle.gf_run.specs.declared.fault.RunFault.{RunFault}
 use Rattle.gf_run.specs.declared.fault.Which.{Which}
 
@@ -51,7 +52,7 @@ module _ {R W : Type 0} (reader : Stream R) (writer : Stream W) where
 
   -- `run_check`
   abbrev pub RunsCheck : Result FileKind RunFault → R → R → W → W → Type 0
-  RunsCheck = Runs IsKindLine IsRefusal
+  RunsCheck = Runs (λ kind bytes text. MeansFileOf bytes kind × (text ≡ kind_line kind)) IsRefusal
 
   -- `run_table` and `run_table_reduced`
   abbrev pub RunsTable : Strategies → Result ⊤ RunFault → R → R → W → W → Type 0

@@ -45,14 +45,11 @@ module _ {S : Type 0} (gives : S → List ℕ → Result ℕ Error → S → Typ
     pub given : gives old bytes (Err error) new
     pub kind : Kind (error_kind error)
 
-  -- a request was interrupted
-  abbrev pub IsInterrupted : (List ℕ → Type 0) → S → S → Type 0
-  IsInterrupted P = IsError P (λ kind. kind ≡ ErrorKind.Interrupted)
-
   -- n requests in a row were interrupted
   unfoldable pub Interruptions : (List ℕ → Type 0) → ℕ → S → S → Type 0
   Interruptions P zero old new = new ≡ old
-  Interruptions P (suc n) old new = (mid : S) × Interruptions P n old mid × IsInterrupted P mid new
+  Interruptions P (suc n) old new = (mid : S) × Interruptions P n old mid
+      × IsError P (λ kind. kind ≡ ErrorKind.Interrupted) mid new
 
   -- a turn: fewer than sixteen interruptions in a row, and then such an answer
   pub record IsTurn (P : List ℕ → Type 0) (answer : S → S → Type 0) (old new : S) : Type 0 where

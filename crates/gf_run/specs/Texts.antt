@@ -1,21 +1,20 @@
 -- What is written about files that are read: what one holds, the text of a table, and whether two are
 -- the same.
-use Rattle.std.specs.Prelude.{◌≡◌, ◌≢◌, ◌↔◌, ℕ, Bool, true, false, IsTrue, List, ◌++◌, codes, decimal}
+use Rattle.std.specs.Prelude.{◌≡◌, ◌≢◌, ◌⊎◌, ◌↔◌, ℕ, Bool, true, false, IsTrue, List, ◌++◌, codes, decimal}
 use Rattle.std.specs.List.{flat_map}
 use Rattle.gf_nfg.specs.Table.{Table}
 use Rattle.gf_nfg.specs.TableText.{table_text}
+use Rattle.gf_tree.specs.Game.{Game}
 use Rattle.gf_tree.specs.Renumbering.{Renumbering}
 use Rattle.gf_tree.specs.SameGame.{Carries, SameGame}
-use Rattle.gf_token.specs.declared.form_fault.FormFault.{FormFault}
 use Rattle.gf_token.specs.declared.names.Names.{Names}
 use Rattle.gf_canon.specs.CanonicalText.{SpellsWithin}
 use Rattle.gf_canon.specs.GameFile.{GameFile}
-use Rattle.gf_canon.specs.KindOfFile.{MeansFileOf}
 use Rattle.gf_canon.specs.NamesAside.{IsTextBy}
 use Rattle.gf_canon.specs.Pairs.{renumbering_pairs}
 use Rattle.gf_canon.specs.declared.kind.FileKind.{FileKind}
 use Rattle.gf_canon.specs.declared.numbering.pairs.NumberPair.{NumberPair}
-use Rattle.gf_form.specs.Forms as forms
+use Rattle.gf_form.specs.Forms.{IsFormOf}
 use Rattle.gf_form.specs.declared.forms.Strategies.{Strategies}
 
 -- ---- the kind of a file
@@ -24,10 +23,6 @@ use Rattle.gf_form.specs.declared.forms.Strategies.{Strategies}
 abbrev pub kind_line : FileKind → List ℕ
 kind_line FileKind.Tree = codes "tree\n"
 kind_line FileKind.Strategic = codes "table\n"
-
--- the bytes mean a file of this kind, within the limit, and this is its line
-abbrev pub IsKindLine : FileKind → List ℕ → List ℕ → Type 0
-IsKindLine kind bytes text = MeansFileOf bytes kind × (text ≡ kind_line kind)
 
 -- ---- its canonical text
 
@@ -38,23 +33,12 @@ AreCanonical names bytes false = (text : List ℕ) × IsTextBy names bytes text 
 
 -- ---- the table of a file, which is the form of a tree by some strategies, or the table itself
 
--- the form of a game, if nothing rules it out; for a table, the table itself
-abbrev pub IsTableOfFile : Strategies → GameFile → Table → Type 0
-IsTableOfFile strategies (GameFile.extensive g) t = forms.IsFormOf strategies g t
-IsTableOfFile strategies (GameFile.strategic s) t = t ≡ s
-
--- the bytes mean a file within the limit, and this is the canonical text of its table
-pub record IsFormText (strategies : Strategies) (bytes text : List ℕ) : Type 0 where
-  pub file : GameFile
-  pub spelled : SpellsWithin bytes file
-  pub table : Table
-  pub is_form : IsTableOfFile strategies file table
-  pub is_text : text ≡ table_text table
-
--- why no table is made of a file; one that is a table always has one
-abbrev pub IsFileWithoutForm : Strategies → GameFile → FormFault → Type 0
-IsFileWithoutForm strategies (GameFile.extensive g) fault = forms.IsWithoutForm strategies g fault
-IsFileWithoutForm strategies (GameFile.strategic t) fault = ⊥
+-- the bytes mean a tree or a table within the limit, and this is the canonical text of its form, or of
+-- the table itself
+abbrev pub IsFormText : Strategies → (bytes text : List ℕ) → Type 0
+IsFormText strategies bytes text = (t : Table) × (text ≡ table_text t)
+    × (((g : Game) × SpellsWithin bytes (GameFile.extensive g) × IsFormOf strategies g t)
+    ⊎ SpellsWithin bytes (GameFile.strategic t))
 
 -- ---- two files that are compared
 

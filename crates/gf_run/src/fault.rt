@@ -53,11 +53,12 @@ impl From<SameFault> for RunFault {
     ghost from_gives = { λ same fault. fault ≡ fault_of same };
 
     fn from(same: SameFault) -> RunFault {
-        match same {
-            SameFault::First(fault) => refusal(Which::First, fault),
-            SameFault::Second(fault) => refusal(Which::Second, fault),
-            SameFault::Memory => RunFault::Memory,
-        }
+        let (which, fault) = match same {
+            SameFault::First(fault) => (Which::First, fault),
+            SameFault::Second(fault) => (Which::Second, fault),
+            SameFault::Memory => return RunFault::Memory,
+        };
+        RunFault::Refused { which, fault }
     }
 }
 
@@ -85,18 +86,12 @@ impl From<WriteFault> for RunFault {
     }
 }
 
-/// The refusal of an input.
-pub(crate) fn refusal(which: Which, fault: Fault) -> RunFault
-    ensures { result ≡ RunFault.Refused which fault }
-{
-    RunFault::Refused { which, fault }
-}
-
 /// The refusal of the one input of a run.
 pub(crate) fn refused(fault: Fault) -> RunFault
     ensures { result ≡ RunFault.Refused Which.Only fault }
 {
-    refusal(Which::Only, fault)
+    let which = Which::Only;
+    RunFault::Refused { which, fault }
 }
 
 /// The exit status of a fault: 2 for a refusal, and for a game that has no table; 4 if a reader or

@@ -1,7 +1,7 @@
 //! A writer to a terminal that erases what is in a line before it begins one.
 
 ghost use Rattle.std.specs.Prelude.{◌≡◌, None, if◌then◌else◌};
-ghost use Rattle.gf_jobs.specs.Wrapped.{held_by};
+ghost use Rattle.gf_jobs.specs.Opening.{held_by};
 
 use std::io;
 use std::io::Write;

@@ -3,8 +3,7 @@
 ghost use Rattle.std.specs.Prelude.{◌≡◌, MatchResult, None, Some};
 ghost use Rattle.gf_run.specs.declared.fault.RunFault.{RunFault};
 ghost use Rattle.gf_run.specs.declared.fault.Which.{Which};
-ghost use Rattle.gf_jobs.specs.Wrapped.{bytes_kept, kept_at_first, source_of};
-ghost use Rattle.gf_jobs.specs.Opening.{OpensFile};
+ghost use Rattle.gf_jobs.specs.Opening.{bytes_kept, kept_at_first, source_of, OpensFile};
 ghost use Rattle.gf_jobs.specs.Reports.{called, name_of};
 
 use crate::explain::{Cause, Failed, unread};

@@ -6,8 +6,8 @@ ghost use Rattle.gf_jobs.specs.LedTo.{AreIn, HasPath, LeadsTo, LooksAt, folder_a
 ghost use Rattle.gf_jobs.specs.declared.collections.file.CollectionFile.{CollectionFile};
 
 use crate::collections::file::CollectionFile;
-use crate::collections::kept_files::{Fate, KeptFiles, kept_if};
-use crate::opening::inputs::{Found, Identity, Inputs, Listing};
+use crate::collections::kept_files::{Fate, Repeats, SoFar, keep, kept_if, note};
+use crate::opening::inputs::{Found, Inputs, Listing};
 use gf_words::{Input, is_game_file};
 use std::alloc::{AllocError, Global};
 use std::collections::BTreeSet;
@@ -77,15 +77,6 @@ fn open_folder<I: Inputs>(
     Ok(is_whole)
 }
 
-/// What is to be done below a path.
-#[derive(Drop)]
-struct Search {
-    /// What still has to be looked at, the last one first.
-    waiting: Vec<CollectionFile>,
-    /// The folders that were opened.
-    folders: BTreeSet<Identity>,
-}
-
 /// Looks at what is at the path of a file, and returns what becomes of it; `is_named` says whether it
 /// was named itself. What is in a folder is put before everything that waits, but once only; a folder
 /// that cannot be read whole is kept as a file. A pipe, a socket or a device is kept only if it was
@@ -93,18 +84,15 @@ struct Search {
 fn look_at<I: Inputs>(
     alloc: Global,
     inputs: &I,
+    repeats: Repeats,
     file: &CollectionFile,
     is_named: bool,
-    search: &mut Search,
-    kept: &mut KeptFiles,
+    waiting: &mut Vec<CollectionFile>,
+    so_far: &mut SoFar,
 ) -> Result<Fate, AllocError>
-    ensures looked { IfOk result (λ fate. (inside : List CollectionFile)
-        × LooksAt I.opener inputs.now kept.old.repeats is_named file.now
-        (record { folders = search.old.folders; files = kept.old.seen })
-        (record { folders = search.new.folders; files = kept.new.seen }) inside fate
-        × (reverse search.new.waiting.items ≡ inside ++ reverse search.old.waiting.items)) }
-    ensures files { kept.new.files ≡ kept.old.files }
-    ensures repeats { kept.new.repeats ≡ kept.old.repeats }
+    ensures { IfOk result (λ fate. (inside : List CollectionFile)
+        × LooksAt I.opener inputs.now repeats is_named file.now so_far.old so_far.new inside fate
+        × (reverse waiting.new.items ≡ inside ++ reverse waiting.old.items)) }
 {
     let CollectionFile::Input(Input::File(path)) = file else {
         return Ok(Fate::Kept);
@@ -113,13 +101,13 @@ fn look_at<I: Inputs>(
     let may_be_game = is_named || is_game_file(path);
     match inputs.look_at(path) {
         Found::Folder(folder) => {
-            if !search.folders.insert(folder)? {
+            if !so_far.folders.insert(folder)? {
                 return Ok(Fate::NoGame);
             }
-            let is_whole = open_folder(alloc, inputs, path, &mut search.waiting)?;
+            let is_whole = open_folder(alloc, inputs, path, waiting)?;
             Ok(kept_if(!is_whole))
         }
-        Found::File(identity) if may_be_game => kept.note(identity, is_named),
+        Found::File(file) if may_be_game => note(&mut so_far.files, repeats, file, is_named),
         Found::File(_) => Ok(Fate::NoGame),
         Found::Other => Ok(kept_if(is_named)),
         Found::Nothing => Ok(kept_if(may_be_game)),
@@ -135,31 +123,38 @@ fn look_at<I: Inputs>(
 pub fn push_files<I: Inputs>(
     alloc: Global,
     inputs: &I,
+    repeats: Repeats,
     path: &[u8],
-    kept: &mut KeptFiles,
+    files: &mut Vec<CollectionFile>,
+    so_far: &mut SoFar,
 ) -> Result<bool, AllocError>
-    ensures repeats { kept.new.repeats ≡ kept.old.repeats }
-    ensures files { IfOk result (λ some. (own : List CollectionFile)
-        × (kept.new.files.items ≡ kept.old.files.items ++ own)
-        × LeadsTo I.opener inputs.now kept.old.repeats path.now kept.old.seen kept.new.seen own some) }
+    ensures { IfOk result (λ some. (own : List CollectionFile)
+        × (files.new.items ≡ files.old.items ++ own)
+        × LeadsTo I.opener inputs.now repeats path.now so_far.old.files so_far.new.files own some) }
 {
     if path == b"-".as_slice() {
-        kept.files.push(CollectionFile::Input(Input::Standard))?;
+        files.push(CollectionFile::Input(Input::Standard))?;
         return Ok(true);
     }
-    let mut search = Search {
-        waiting: Vec::new(alloc),
-        folders: BTreeSet::new(alloc),
-    };
-    let named = file_in(alloc, b"", path)?;
-    let fate = look_at(alloc, inputs, &named, true, &mut search, kept)?;
-    let mut has_games = kept.push(named, fate)?;
+    let mut waiting = vec![in alloc; file_in(alloc, b"", path)?]?;
+    so_far.folders = BTreeSet::new(alloc);
+    let mut is_named = true;
+    let mut has_games = false;
     for _turn in 0..u64::MAX {
-        let Some(file) = search.waiting.pop() else {
+        let Some(file) = waiting.pop() else {
             return Ok(has_games);
         };
-        let fate = look_at(alloc, inputs, &file, false, &mut search, kept)?;
-        has_games |= kept.push(file, fate)?;
+        let fate = look_at(
+            alloc,
+            inputs,
+            repeats,
+            &file,
+            is_named,
+            &mut waiting,
+            so_far,
+        )?;
+        has_games |= keep(files, file, fate)?;
+        is_named = false;
     }
     // Never reached: the bound is there because each loop has to end.
     Err(AllocError)

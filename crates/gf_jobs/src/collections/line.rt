@@ -1,9 +1,8 @@
 //! The line about one of several files, and the run that writes it.
 
 ghost use Rattle.std.specs.Prelude.{MatchResult};
-ghost use Rattle.gf_jobs.specs.Lines.{IsHashOf, IsLineOf};
+ghost use Rattle.gf_jobs.specs.Lines.{IsHashOf, IsLineOf, ReadsHash, RunsLine};
 ghost use Rattle.gf_run.specs.Faults.{IsFaultOfFile, IsRefusal};
-ghost use Rattle.gf_jobs.specs.Lines.{RunsLine};
 
 use crate::collections::name::push_name_line;
 use crate::jobs::ending::after_name;
@@ -27,11 +26,23 @@ pub enum FileLine {
 }
 
 /// The hash of these bytes' canonical text: SHA-256 (FIPS 180-4).
-pub(crate) fn hash_of(alloc: Global, bytes: &[u8], names: Names) -> Result<[u8; 32], RunFault>
+fn hash_of(alloc: Global, bytes: &[u8], names: Names) -> Result<[u8; 32], RunFault>
     ensures { MatchResult result (λ hash. IsHashOf names bytes.now hash) (IsRefusal bytes.now) }
 {
     let answer = canon(alloc, bytes, names)?;
     Ok(sha256_of(answer.text))
+}
+
+/// Reads a file whole, and returns the hash of its canonical text, with names or without.
+pub(crate) fn read_hash<R: Source>(
+    alloc: Global,
+    input: &mut R,
+    names: Names,
+) -> Result<[u8; 32], RunFault>
+    ensures { ReadsHash R.reader names result input.old input.new }
+{
+    let bytes = load(alloc, input, Which::Only)?;
+    hash_of(alloc, bytes.as_slice(), names)
 }
 
 /// What is written about the file of this name, which has these bytes.

@@ -2,9 +2,8 @@
 
 ghost use Rattle.std.specs.Prelude.{◌≡◌, ◌++◌, OnOk};
 ghost use Rattle.std.specs.List.{flat_map, list_any};
-ghost use Rattle.gf_jobs.specs.Lines.{byte_text, is_escaped, mark, name_line, name_text};
+ghost use Rattle.gf_jobs.specs.Lines.{byte_text, is_escaped, name_line};
 
-use crate::opening::list::end_byte;
 use gf_words::LineEnd;
 use std::alloc::AllocError;
 
@@ -19,17 +18,6 @@ fn has_escaped(name: &[u8]) -> bool
     ensures { result ≡ list_any is_escaped name.now }
 {
     name.iter().any(|byte| is_escaped(*byte))
-}
-
-/// What the line of a name begins with: a backslash, if a byte of the name is escaped.
-fn mark(name: &str, end: LineEnd) -> &'static [u8]
-    ensures { result.now ≡ mark end name.now }
-{
-    match end {
-        LineEnd::LineFeed if has_escaped(name.as_bytes()) => b"\\",
-        LineEnd::LineFeed => b"",
-        LineEnd::Null => b"",
-    }
 }
 
 fn push_byte(text: &mut Vec<u8>, byte: u8) -> Result<(), AllocError>
@@ -53,16 +41,6 @@ fn push_escaped(text: &mut Vec<u8>, name: &[u8]) -> Result<(), AllocError>
     Ok(())
 }
 
-/// Appends a name.
-fn push_name(text: &mut Vec<u8>, name: &str, end: LineEnd) -> Result<(), AllocError>
-    ensures { OnOk result (text.new.items ≡ text.old.items ++ name_text end name.now) }
-{
-    match end {
-        LineEnd::LineFeed => push_escaped(text, name.as_bytes()),
-        LineEnd::Null => text.extend_from_slice(name.as_bytes()),
-    }
-}
-
 /// Appends the line of a name, after a text that stands before it.
 pub(crate) fn push_name_line(
     text: &mut Vec<u8>,
@@ -72,9 +50,20 @@ pub(crate) fn push_name_line(
 ) -> Result<(), AllocError>
     ensures { OnOk result (text.new.items ≡ text.old.items ++ name_line end before.now name.now) }
 {
-    text.extend_from_slice(mark(name, end))?;
-    text.extend_from_slice(before)?;
-    push_name(text, name, end)?;
-    text.push(end_byte(end))?;
-    Ok(())
+    let name = name.as_bytes();
+    match end {
+        LineEnd::LineFeed => {
+            if has_escaped(name) {
+                text.push(b'\\')?;
+            }
+            text.extend_from_slice(before)?;
+            push_escaped(text, name)?;
+            text.extend_from_slice(b"\n")
+        }
+        LineEnd::Null => {
+            text.extend_from_slice(before)?;
+            text.extend_from_slice(name)?;
+            text.extend_from_slice(b"\0")
+        }
+    }
 }

@@ -1,18 +1,19 @@
 //! The files of a collection: those that words or a list of names lead to.
 
-ghost use Rattle.std.specs.Prelude.{◌≡◌, IfErr, IfOk, List, map, ℕ};
+ghost use Rattle.std.specs.Prelude.{Err, IfErr, IfOk, List, Ok, map, ℕ};
 ghost use Rattle.gf_jobs.specs.LedTo.{AreFilesOf};
-ghost use Rattle.gf_jobs.specs.Performs.{AreNames, IsUnlisted, without_games};
+ghost use Rattle.gf_jobs.specs.Performs.{AreNames};
 
 use crate::collections::file::CollectionFile;
 use crate::collections::folders::push_files;
-use crate::collections::kept_files::{KeptFiles, Repeats};
+use crate::collections::kept_files::{Repeats, SoFar};
 use crate::explain::{Cause, Failed, unread};
 use crate::jobs::ending::after_name;
 use crate::opening::inputs::{Inputs, open_input};
 use crate::opening::list::push_names;
 use gf_words::{Input, LineEnd, Paths};
 use std::alloc::{AllocError, Global};
+use std::collections::BTreeSet;
 use std::convert::AsSlice;
 use std::io::ErrorKind;
 
@@ -31,10 +32,10 @@ fn names_in<I: Inputs>(
     list: &Input,
     end: LineEnd,
 ) -> Result<Vec<Vec<u8>>, Failed>
-    ensures names { IfOk result (λ names. AreNames I.opener I.Opened.reader
-        (Paths.List list.now end) (map (λ name. name.items) names.items) inputs.old inputs.new) }
-    ensures fault { IfErr result (λ failed.
-        IsUnlisted I.opener (Paths.List list.now end) failed.fault inputs.old inputs.new) }
+    ensures names { IfOk result (λ names. AreNames I.opener I.Opened.reader (Paths.List list.now end)
+        (Ok (map (λ name. name.items) names.items)) inputs.old inputs.new) }
+    ensures fault { IfErr result (λ failed. AreNames I.opener I.Opened.reader
+        (Paths.List list.now end) (Err failed.fault) inputs.old inputs.new) }
 {
     let input = match open_input(inputs, list) {
         Ok(input) => input,
@@ -55,15 +56,18 @@ fn files_led_to<I: Inputs, P: AsSlice<u8>>(
     paths: &[P],
     repeats: Repeats,
 ) -> Result<FoundFiles, AllocError>
-    ensures { IfOk result (λ found. (without : List (List ℕ)) × AreFilesOf I.opener inputs.now repeats
-        (map P.items paths.now) found.files.items without
-        × (found.without_games.items ≡ without_games without)) }
+    ensures { IfOk result (λ found. AreFilesOf I.opener inputs.now repeats (map P.items paths.now)
+        found.files.items found.without_games.items) }
 {
-    let mut kept = KeptFiles::new(alloc, repeats);
+    let mut files = Vec::new(alloc);
     let mut without_games = Vec::new(alloc);
+    let mut so_far = SoFar {
+        folders: BTreeSet::new(alloc),
+        files: BTreeSet::new(alloc),
+    };
     for path in paths {
         let path = path.as_slice();
-        if push_files(alloc, inputs, path, &mut kept)? {
+        if push_files(alloc, inputs, repeats, path, &mut files, &mut so_far)? {
             continue;
         }
         let name = String::from_utf8_lossy(alloc, path)?;
@@ -71,7 +75,7 @@ fn files_led_to<I: Inputs, P: AsSlice<u8>>(
         without_games.extend_from_slice(line.as_slice())?;
     }
     Ok(FoundFiles {
-        files: kept.files,
+        files,
         without_games,
     })
 }
@@ -91,12 +95,11 @@ pub fn files_at<I: Inputs>(
     repeats: Repeats,
 ) -> Result<FoundFiles, Failed>
     ensures files { IfOk result (λ found. (names : List (List ℕ))
-        × AreNames I.opener I.Opened.reader paths.now names inputs.old inputs.new
-        × (without : List (List ℕ))
-        × AreFilesOf I.opener inputs.new repeats names found.files.items without
-        × (found.without_games.items ≡ without_games without)) }
+        × AreNames I.opener I.Opened.reader paths.now (Ok names) inputs.old inputs.new
+        × AreFilesOf I.opener inputs.new repeats names found.files.items
+        found.without_games.items) }
     ensures fault { IfErr result (λ failed.
-        IsUnlisted I.opener paths.now failed.fault inputs.old inputs.new) }
+        AreNames I.opener I.Opened.reader paths.now (Err failed.fault) inputs.old inputs.new) }
 {
     match paths {
         Paths::Standard => Ok(files_led_to(alloc, inputs, &["-"], repeats)?),

@@ -2,7 +2,7 @@
 
 ghost use Rattle.std.specs.Prelude.{◌≡◌, IfOk, option_map};
 ghost use Rattle.gf_run.specs.Faults.{fault_line, status_of};
-ghost use Rattle.gf_jobs.specs.Wrapped.{kept_at_first};
+ghost use Rattle.gf_jobs.specs.Opening.{kept_at_first};
 ghost use Rattle.gf_jobs.specs.Reports.{IsAnswered, IsLineOr, IsNamedExplanation, IsReported};
 ghost use Rattle.gf_jobs.specs.Reports.{IsSent, IsNamedReport};
 ghost use Rattle.gf_jobs.specs.Lines.{after_name};

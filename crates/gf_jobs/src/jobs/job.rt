@@ -22,9 +22,8 @@ use std::alloc::Global;
 /// - `Table`: `run_table`, or `run_table_reduced`.
 /// - `Same`: `run_same_map` if `map` is true, otherwise `run_same`, or `run_same_by` with names aside.
 ///   The first file is opened, and then the second, before either is read.
-/// - `CheckCanon`, `CheckAll`, `Hash`: `run_line` for each of the files, as `run_lines` says.
-/// - `WriteCanon`: `run_rewrites`.
-/// - `Duplicates`: `run_duplicates`.
+/// - `CheckCanon`, `CheckAll`, `Hash`, `WriteCanon`, `Duplicates`: `run_task`, which makes `run_line`
+///   for each of the files, or does what `Task` says.
 ///
 /// The status is 0; or 1 if two files are compared and differ, if `CheckCanon` finds a file that is
 /// not its own canonical text, or if `Duplicates` finds some that are the same game. Of several

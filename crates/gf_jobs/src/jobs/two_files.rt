@@ -2,7 +2,7 @@
 
 ghost use Rattle.gf_run.specs.Faults.{answer_status};
 ghost use Rattle.gf_run.specs.Run.{RunsTwo};
-ghost use Rattle.gf_jobs.specs.Wrapped.{bytes_kept};
+ghost use Rattle.gf_jobs.specs.Opening.{bytes_kept};
 ghost use Rattle.gf_jobs.specs.Performs.{IsAnswerBy, IsSame, PerformsTwo, of_fault, world_of};
 ghost use Rattle.gf_jobs.specs.Reports.{Ends, IsReported};
 

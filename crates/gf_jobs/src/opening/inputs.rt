@@ -4,7 +4,7 @@ ghost use Rattle.std.specs.Prelude.{◌≡◌, Err, IfOk, MatchResult, Ok, map, 
 ghost use Rattle.std.specs.declared.io.Error.{Error};
 ghost use Rattle.gf_run.specs.declared.fault.RunFault.{RunFault};
 ghost use Rattle.gf_run.specs.declared.fault.Which.{Which};
-ghost use Rattle.gf_jobs.specs.Wrapped.{bytes_kept, kept_at_first, source_of};
+ghost use Rattle.gf_jobs.specs.Opening.{bytes_kept, kept_at_first, source_of};
 ghost use Rattle.gf_jobs.specs.Opening.{Opener, Opens, OpensBoth, file_named, file_of};
 
 use crate::explain::{Cause, Failed, unread};

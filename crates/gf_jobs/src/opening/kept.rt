@@ -1,7 +1,7 @@
 //! A reader that keeps the bytes that pass, so that a fault in them can be explained.
 
 ghost use Rattle.std.specs.Prelude.{◌≡◌, ◌≤◌, Ok, length, option_map};
-ghost use Rattle.gf_jobs.specs.Wrapped.{Keeps, bytes_kept, kept_at_first, kept_reader, source_of};
+ghost use Rattle.gf_jobs.specs.Opening.{Keeps, bytes_kept, kept_at_first, kept_reader, source_of};
 
 use gf_run::{LastError, Source};
 use std::alloc::Global;

@@ -1,8 +1,7 @@
 //! The inputs of the program: standard input, and files.
 
 ghost use Rattle.std.specs.Prelude.{option_map};
-ghost use Rattle.gf_jobs.specs.Opening.{Opens};
-ghost use Rattle.gf_jobs.specs.Wrapped.{host_opener, remaining_of};
+ghost use Rattle.gf_jobs.specs.Opening.{Opens, host_opener, remaining_of};
 
 use crate::opening::inputs::{Found, Inputs, Listing};
 use crate::opening::list::push_names;

@@ -6,7 +6,7 @@ ghost use Rattle.std.specs.Io.KnownBytes.{ReadConsumes};
 ghost use Rattle.gf_run.specs.Streams.{CountsPull, GivesUp, HasRisen, Moves, Stream};
 ghost use Rattle.gf_run.specs.Transfers.{HasLength, IsNotRead, IsRead, IsReadWhole, limit};
 
-use crate::fault::{RunFault, Which, refusal};
+use crate::fault::{RunFault, Which};
 use crate::streams::turns::{PATIENCE, is_interruption};
 use gf_token::{Fault, Why};
 use std::alloc::Global;
@@ -84,7 +84,8 @@ fn pull_next<R: Source>(
     let room = (left + 1).min(buffer.len());
     let count = pull_again(input, &mut buffer[..room], which)?;
     if left < count {
-        return Err(refusal(which, Fault::at_end(LIMIT, Why::TooLong)));
+        let fault = Fault::at_end(LIMIT, Why::TooLong);
+        return Err(RunFault::Refused { which, fault });
     }
     Ok(count)
 }

@@ -1,10 +1,10 @@
 use Rattle.std.proofs.Common.{◌≡◌, ◌∙◌, ℕ, List, arith, map, refl, sym}
 use Rattle.std.specs.List.{Contains}
+use Rattle.std.specs.Str.{bytes_eq}
 use Rattle.gf_tree.proofs.Offered.{contains, has, has_map, in_filter, is_used, mapped_from}
 use Rattle.gf_tree.proofs.Offered.{of_filter}
 use Rattle.gf_jobs.proofs.Grouped.{same_hash_equality}
 use Rattle.gf_jobs.specs.Duplicates.{AreInOneGroup, HashedFile, groups_of, hashes_of, having}
-use Rattle.gf_jobs.specs.Duplicates.{same_hash}
 use Rattle.gf_jobs.proofs.laws.one_group_for_each_hash.Goals as goal
 
 -- a file of the group of a hash has this hash
@@ -12,7 +12,7 @@ hash_in : (files : List HashedFile) (hash : List ℕ) (a : HashedFile)
     → Contains (having files hash) a
     → hash ≡ a.hash
 hash_in files hash a m = (same_hash_equality hash a.hash).0
-    (of_filter (λ file. same_hash hash file.hash) files a (has (having files hash) a m)).1
+    (of_filter (λ file. bytes_eq hash file.hash) files a (has (having files hash) a m)).1
 
 -- a file that has a hash is in its group
 in_group : (files : List HashedFile) (hash : List ℕ) (a : HashedFile) → Contains files a
@@ -31,7 +31,7 @@ together files a b m n e = record {
   group = having files a.hash;
   is_group = contains (groups_of files) (having files a.hash)
       (has_map (having files) (hashes_of files) a.hash
-      (is_used same_hash same_hash_equality (map (λ file. file.hash) files) a.hash
+      (is_used bytes_eq same_hash_equality (map (λ file. file.hash) files) a.hash
       (has_map (λ file. file.hash) files a (has files a m))));
   first = in_group files a.hash a m refl;
   second = in_group files a.hash b n e;

@@ -4,8 +4,8 @@ use Rattle.gf_jobs.specs.LedTo.Enters.{again, first}
 use Rattle.gf_jobs.specs.declared.collections.file.CollectionFile.{CollectionFile}
 use Rattle.gf_jobs.proofs.collections.folders.look_at.Goals as goal
 
-pub returns-then-not-branch-clause-looked : goal.returns-then-not-branch-clause-looked
-returns-then-not-branch-clause-looked g c =
+pub returns-then-not-branch : goal.returns-then-not-branch
+returns-then-not-branch g c =
     let file : c.args.file.now ≡ CollectionFile.Input (Input.File c.in-Input-File.path)
     = search rules in
     let at = rw c.as_str-path.ensures.value at c.look_at.ensures in
@@ -23,9 +23,9 @@ returns-then-not-branch-clause-looked g c =
       refl,
     )
 
-pub returns-in_ok-is_whole-in-Folder-clause-looked :
-    goal.returns-in_ok-is_whole-in-Folder-clause-looked
-returns-in_ok-is_whole-in-Folder-clause-looked g c =
+pub returns-in_ok-is_whole-in-Folder :
+    goal.returns-in_ok-is_whole-in-Folder
+returns-in_ok-is_whole-in-Folder g c =
     let file : c.args.file.now ≡ CollectionFile.Input (Input.File c.in-Input-File.path)
     = search rules in
     let at = rw c.as_str-path.ensures.value at c.look_at.ensures in

@@ -1,7 +1,6 @@
 use Rattle.std.proofs.Common.{refl}
 use Rattle.gf_run.specs.Run.{read, unread}
-use Rattle.gf_run.proofs.Offered.{is_error}
-use Rattle.gf_run.proofs.Offered.{written}
+use Rattle.gf_run.proofs.Offered.{is_error, written}
 use Rattle.gf_jobs.proofs.collections.line.run_line.Goals as goal
 
 pub returns-in_err-bytes : goal.returns-in_err-bytes

@@ -9,7 +9,7 @@ returns-in_err-are_canonical g c =
 
 pub returns-then-branch : goal.returns-then-branch
 returns-then-branch g c =
-    canonical _ refl (rw c.if-branch.true at c.in_ok-are_canonical.ensures) refl
+    canonical refl (rw c.if-branch.true at c.in_ok-are_canonical.ensures) refl
 
 pub returns-in_err-answer : goal.returns-in_err-answer
 returns-in_err-answer g c =

@@ -36,7 +36,7 @@ returns-then-left-count-clause-next g c = λ start read.
     let size = length-take c.min-room.result c.args.buffer.now in
     let came = take c.in_ok-count.count c.pull_again.new.to in
     let all = length-append c.args.bytes.now came in
-    rw (c.refusal.ensures, c.at_end.ensures) (
+    rw c.at_end-fault.ensures (
       refl,
       refl,
       (

@@ -1,6 +1,6 @@
 use Rattle.gf_run.specs.Run.{read, unread}
 use Rattle.gf_run.proofs.Offered.{is_error}
-use Rattle.gf_jobs.proofs.collections.duplicates.read_hash.Goals as goal
+use Rattle.gf_jobs.proofs.collections.line.read_hash.Goals as goal
 
 pub returns-in_err-bytes : goal.returns-in_err-bytes
 returns-in_err-bytes g c =
