@@ -1,7 +1,7 @@
 -- What is met while a name is followed.
 use Rattle.std.proofs.Common.{◌≡◌, ◌∷◌, ◌++◌, ◌+◌, ◌-◌, ◌<◌, ◌≤◌, ◌||◌, [], Bool, List, append-nil}
 use Rattle.std.proofs.Common.{append_assoc, arith, drop, false, get_or, if◌then◌else◌, length, map}
-use Rattle.std.proofs.Common.{reverse, take, ℕ}
+use Rattle.std.proofs.Common.{refl, reverse, take, ℕ}
 use Rattle.std.proofs.Math.Bool.{or-false, or_assoc}
 use Rattle.std.proofs.lemmas.List.{drop_more, map_more, reverse-append}
 use Rattle.std.specs.Prelude.{codes, nat_eq}
@@ -31,6 +31,45 @@ in_more bytes_of folder names place name file inside some within this shown is a
     = grind (arith, drop_more names (place - 1) name, this) in
     rw (rest, shown) (is, are)
 
+-- what is met at all of these files is what is met at the first ones, and then at the others
+met_in_turn : {I S : Type 0} (opener : Opener I S) (i : I) (repeats : Repeats)
+    (files others : List CollectionFile) (old new : SoFar) (kept : List CollectionFile) (some : Bool)
+    → AreMet opener i repeats false (files ++ others) old new kept some → (mid : SoFar)
+    × (first second : List CollectionFile) × (one two : Bool)
+    × AreMet opener i repeats false files old mid first one
+    × AreMet opener i repeats false others mid new second two × (kept ≡ first ++ second)
+    × (some ≡ one || two)
+met_in_turn opener i repeats [] others old new kept some are =
+    (old, [], kept, false, some, none false old, are, refl, refl)
+met_in_turn opener i repeats (file ∷ files) others old new kept some
+    (next _ _ _ _ below rest _ _ mid _ fate inner outer looks are_below are) =
+    let (left, first, second, one, two, are_first, are_second, all, any) =
+    met_in_turn opener i repeats files others mid new rest outer are in (
+      left,
+      kept_of file fate ++ below ++ first,
+      second,
+      counts_as_game fate || inner || one,
+      two,
+      next _ _ _ _ _ _ _ _ _ _ _ _ _ looks are_below are_first,
+      are_second,
+      grind (arith, append_assoc, all),
+      grind (arith, or_assoc, any),
+    )
+
+-- what is met at a file, and then at others, is all that is met
+met_next : {I S : Type 0} (opener : Opener I S) (i : I) (repeats : Repeats) (named : Bool)
+    (file : CollectionFile) (files inside below others kept : List CollectionFile)
+    (old opened mid new : SoFar) (fate : Fate) (inner outer some : Bool)
+    → LooksAt opener i repeats named file old opened inside fate
+    → AreMet opener i repeats false inside opened mid below inner
+    → AreMet opener i repeats false files mid new others outer → kept ≡ below ++ others
+    → some ≡ inner || outer → AreMet opener i repeats named (file ∷ files) old new
+    (kept_of file fate ++ kept) (counts_as_game fate || some)
+met_next opener i repeats named file files inside below others kept old opened mid new fate inner outer
+    some looks are_below are_others all any =
+    rw (all, any, ← append_assoc (kept_of file fate) below others, ← or_assoc (counts_as_game fate) inner outer)
+    (next _ _ _ _ _ _ _ _ _ _ _ _ _ looks are_below are_others)
+
 module _ {I S : Type 0} (opener : Opener I S) (i : I) (repeats : Repeats) (name : List ℕ) (seen : Seen)
     (old : List CollectionFile) where
   -- after some was met: what waits leads on to what the name leads to
@@ -52,8 +91,11 @@ module _ {I S : Type 0} (opener : Opener I S) (i : I) (repeats : Repeats) (name 
   goes_on named popped waiting after kept now inside file before mid fate some more last_is looks stack
       now_is more_is leads_on = λ last files games are.
       let was : reverse waiting ≡ file ∷ reverse popped = grind (arith, reverse-append, last_is) in
+      let (_, _, _, _, _, below, others, all, any) =
+      met_in_turn opener i repeats inside (reverse popped) mid last files games (rw stack at are) in
       let (own, is, leads) = leads_on last (kept_of file fate ++ files) (counts_as_game fate || games)
-      (rw was (next _ _ _ _ _ _ _ _ _ _ looks (rw stack at are))) in (
+      (rw was (met_next opener i repeats named file _ _ _ _ _ _ _ _ _ fate _ _ _ looks below others
+      all any)) in (
         own,
         grind (arith, append_assoc, now_is, is),
         rw (more_is, or_assoc some (counts_as_game fate) games) leads,

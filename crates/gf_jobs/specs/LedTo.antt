@@ -110,17 +110,17 @@ module _ {I S : Type 0} (opener : Opener I S) (i : I) (repeats : Repeats) where
       × LooksAtPath named (string_bytes path) found old new inside fate
   LooksAt named file old new inside fate = (new ≡ old) × (inside ≡ []) × (fate ≡ Fate.Kept)
 
-  -- what is met at files, at one after another, and in each folder before the file after it: the files
-  -- that are kept, and whether any counts as a game file; `named` says whether the first was named
-  -- itself
+  -- what is met at files, at each the file and then what is below it: the files that are kept, and
+  -- whether any counts as a game file; `named` says whether the first was named itself
   pub data AreMet : (named : Bool) → List CollectionFile → (old new : SoFar)
       → (kept : List CollectionFile) → (some : Bool) → Type 0 where
     none : (named : Bool) (before : SoFar) → AreMet named [] before before [] false
-    next : (named : Bool) (file : CollectionFile) (files inside kept : List CollectionFile)
-        (old mid new : SoFar) (fate : Fate) (some : Bool) → LooksAt named file old mid inside fate
-        → AreMet false (inside ++ files) mid new kept some
-        → AreMet named (file ∷ files) old new (kept_of file fate ++ kept)
-        (counts_as_game fate || some)
+    next : (named : Bool) (file : CollectionFile) (files inside below others : List CollectionFile)
+        (old opened mid new : SoFar) (fate : Fate) (some more : Bool)
+        → LooksAt named file old opened inside fate → AreMet false inside opened mid below some
+        → AreMet false files mid new others more
+        → AreMet named (file ∷ files) old new (kept_of file fate ++ below ++ others)
+        (counts_as_game fate || some || more)
 
   -- what a name leads to: files, and whether any counts as a game file
   pub data LeadsTo (name : List ℕ) (old new : Seen) (kept : List CollectionFile) (some : Bool)
