@@ -24,11 +24,9 @@ abbrev pub groups_of : List HashedFile → List (List HashedFile)
 groups_of files = map (having files) (hashes_of files)
 
 -- two files are in one group of these files
-pub record AreInOneGroup (files : List HashedFile) (a b : HashedFile) : Type 0 where
-  pub group : List HashedFile
-  pub is_group : Contains (groups_of files) group
-  pub first : Contains group a
-  pub second : Contains group b
+abbrev pub AreInOneGroup : List HashedFile → (a b : HashedFile) → Type 0
+AreInOneGroup files a b = (group : List HashedFile) × Contains (groups_of files) group
+    × Contains group a × Contains group b
 
 -- the names of files
 abbrev pub names_of : List HashedFile → List (List ℕ)

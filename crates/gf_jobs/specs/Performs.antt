@@ -16,15 +16,13 @@ use Rattle.gf_words.specs.declared.job.Job.{Job}
 use Rattle.gf_words.specs.declared.job.Paths.{Paths}
 use Rattle.gf_jobs.specs.Duplicates.{are_apart, duplicates, groups_text, HashedFile}
 use Rattle.gf_run.specs.Faults.{IsRefusal, answer_status, is_of_second}
-use Rattle.gf_run.specs.Transfers.{IsNotRead, IsReadWhole}
+use Rattle.gf_run.specs.Streams.{IsNotRead, IsReadWhole, Stream}
 use Rattle.gf_jobs.specs.LedTo.{AreFilesOf}
-use Rattle.gf_jobs.specs.Listed.{names_in}
+use Rattle.gf_jobs.specs.Lines.{names_in, ReadsHash, RunsLine, RunsOne}
 use Rattle.gf_jobs.specs.Opening.{Opener, Opens, OpensBoth, OpensFile, file_named, file_of}
 use Rattle.gf_jobs.specs.Opening.{bytes_kept, kept_at_first, kept_reader, source_of}
 use Rattle.gf_jobs.specs.Reports.{Ends, IsReported, IsSent, IsNamedReport, called, name_of}
 use Rattle.gf_run.specs.Run.{Reads, RunsTwo, Writes}
-use Rattle.gf_jobs.specs.Lines.{ReadsHash, RunsLine, RunsOne}
-use Rattle.gf_run.specs.Streams.{Stream}
 use Rattle.gf_run.specs.Texts.{AreCanonical, IsAnswer, IsLine, IsLineAndMap}
 use Rattle.gf_jobs.specs.declared.collections.file.CollectionFile.{CollectionFile}
 use Rattle.gf_jobs.specs.declared.collections.kept_files.Repeats.{Repeats}

@@ -6,8 +6,7 @@ use Rattle.gf_words.specs.declared.job.Input.{Input}
 use Rattle.gf_explain.specs.Explained as refusal
 use Rattle.gf_explain.specs.Explained.{IsSaidAfter}
 use Rattle.gf_run.specs.Faults.{fault_line, short_line, status_of}
-use Rattle.gf_run.specs.Transfers.{IsWriteFault, IsWritten}
-use Rattle.gf_run.specs.Streams.{Stream}
+use Rattle.gf_run.specs.Streams.{IsWriteFault, IsWritten, Stream}
 use Rattle.gf_jobs.specs.Lines.{after_name}
 use Rattle.gf_jobs.specs.declared.collections.file.CollectionFile.{CollectionFile}
 use Rattle.gf_run.specs.declared.fault.RunFault.{RunFault}

@@ -72,12 +72,7 @@ IsLineAndMap (GameFile.extensive g) (GameFile.extensive h) true text = SameGame 
 IsLineAndMap x y same text = IsLine x y same text
 
 -- the bytes mean two files, and this says whether they are the same, and this is its text
-pub record IsAnswer (Same : GameFile → GameFile → Type 0)
-    (IsText : GameFile → GameFile → Bool → List ℕ → Type 0) (same : Bool) (a b text : List ℕ)
-    : Type 0 where
-  pub first : GameFile
-  pub second : GameFile
-  pub first_spelled : SpellsWithin a first
-  pub second_spelled : SpellsWithin b second
-  pub same_exactly : IsTrue same ↔ Same first second
-  pub is_text : IsText first second same text
+abbrev pub IsAnswer : (Same : GameFile → GameFile → Type 0)
+    → (IsText : GameFile → GameFile → Bool → List ℕ → Type 0) → Bool → (a b text : List ℕ) → Type 0
+IsAnswer Same IsText same a b text = (x y : GameFile) × SpellsWithin a x × SpellsWithin b y
+    × (IsTrue same ↔ Same x y) × IsText x y same text

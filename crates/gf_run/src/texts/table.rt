@@ -6,7 +6,7 @@ ghost use Rattle.gf_nfg.specs.TableText.{table_text};
 ghost use Rattle.gf_form.specs.Forms.{HasFewPlayers, IsFormOf, IsWithoutForm};
 ghost use Rattle.gf_run.specs.Faults.{IsFaultOfBytes, form_fault};
 ghost use Rattle.gf_run.specs.Texts.{IsFormText};
-ghost use Rattle.gf_run.specs.Transfers.{limit};
+ghost use Rattle.gf_run.specs.Streams.{limit};
 
 use crate::fault::{RunFault, refused};
 use crate::texts::answer::Answer;
