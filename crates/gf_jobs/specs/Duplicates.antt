@@ -1,10 +1,10 @@
 -- Which of the files that were read are the same game, and the text that names them.
-use Rattle.std.specs.Prelude.{ℕ, Bool, nat_lt, not, List, [], length, map}
+use Rattle.std.specs.Prelude.{ℕ, Bool, nat_lt, not, List, [], ◌∷◌, length, map}
 use Rattle.std.specs.List.{Contains, filter, flat_map, join_by, list_any}
 use Rattle.std.specs.Str.{bytes_eq}
 use Rattle.gf_tree.specs.FiniteMap.{first_uses}
 use Rattle.gf_words.specs.declared.job.LineEnd.{LineEnd}
-use Rattle.gf_jobs.specs.Lines.{end_text, name_line}
+use Rattle.gf_jobs.specs.Lines.{end_byte, name_line}
 
 -- a file that was read: its name, and the hash of its canonical text
 pub record HashedFile : Type 0 where
@@ -50,4 +50,4 @@ name_lines end names = flat_map (name_line end []) names
 
 -- the names of groups, with an empty line between two groups
 abbrev pub groups_text : LineEnd → List (List (List ℕ)) → List ℕ
-groups_text end groups = join_by (name_lines end) (end_text end) groups
+groups_text end groups = join_by (name_lines end) (end_byte end ∷ []) groups

@@ -1,5 +1,4 @@
--- The lines of a list of names, the line about one of several files, and the runs over one file by what
--- is done with it.
+-- The names in a list, the line about one of several files, and the runs over one file by what is done.
 use Rattle.std.specs.Prelude.{◌≡◌, ℕ, Bool, true, List, [], ◌∷◌, ◌++◌, ◌||◌, nat_eq, codes}
 use Rattle.std.specs.Prelude.{filter, if◌then◌else◌, length, nat_lt, Result, Ok, ⊤, MatchResult}
 use Rattle.std.specs.Io.BufRead.{strip_last}
@@ -13,10 +12,9 @@ use Rattle.gf_canon.specs.NamesAside.{IsTextBy}
 use Rattle.gf_canon.specs.declared.kind.FileKind.{FileKind}
 use Rattle.gf_explain.specs.Shown.{shown_name}
 use Rattle.gf_words.specs.declared.job.LineEnd.{LineEnd}
-use Rattle.gf_run.specs.Faults.{IsFaultOfFile, IsRefusal}
+use Rattle.gf_run.specs.Texts.{IsFaultOfFile, IsRefusal, AreCanonical, kind_line}
 use Rattle.gf_run.specs.Run.{Reads, Runs, RunsCanonBy, RunsCheck, RunsTable}
 use Rattle.gf_run.specs.Streams.{Stream, IsNotRead, IsReadWhole}
-use Rattle.gf_run.specs.Texts.{AreCanonical, kind_line}
 use Rattle.gf_run.specs.declared.fault.RunFault.{RunFault}
 use Rattle.gf_run.specs.declared.fault.Which.{Which}
 use Rattle.gf_jobs.specs.declared.collections.line.FileLine.{FileLine}
@@ -46,10 +44,6 @@ abbrev pub names_in : LineEnd → List ℕ → List (List ℕ)
 names_in end bytes = flat_map (name_in end) (lines_of (end_byte end) bytes)
 
 -- ---- a name
-
--- what ends a line
-abbrev pub end_text : LineEnd → List ℕ
-end_text end = end_byte end ∷ []
 
 -- a line feed, a carriage return or a backslash
 abbrev pub is_escaped : ℕ → Bool

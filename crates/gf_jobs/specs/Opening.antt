@@ -1,5 +1,4 @@
--- What is looked at and opened for a job; and what the readers and writers of the program show, which
--- wrap others.
+-- What is looked at and opened for a job, and what readers and writers that wrap others show.
 use Rattle.std.specs.Prelude.{◌≡◌, ◌⊎◌, ℕ, Bool, true, false, List, [], ◌++◌, take, codes, Option, Some}
 use Rattle.std.specs.Prelude.{None, if◌then◌else◌, option_map, IfOk, MatchResult, Result, Ok, Err, ⊤}
 use Rattle.std.specs.Str.{bytes_eq}
@@ -72,8 +71,7 @@ bytes_kept kept = option_map (λ bytes. bytes.items) kept.bytes
 
 -- the bytes that it has kept before the first pull
 abbrev pub kept_at_first : Bool → Option (List ℕ)
-kept_at_first false = None
-kept_at_first true = Some []
+kept_at_first keeps = if keeps then Some [] else None
 
 -- what is kept before a pull, its buffer, its answer, and what is kept after it
 abbrev pub Keeps : Option (List ℕ) → List ℕ → Result ℕ Error → Option (List ℕ) → Type 0

@@ -15,15 +15,15 @@ use Rattle.gf_words.specs.declared.job.Input.{Input}
 use Rattle.gf_words.specs.declared.job.Job.{Job}
 use Rattle.gf_words.specs.declared.job.Paths.{Paths}
 use Rattle.gf_jobs.specs.Duplicates.{are_apart, duplicates, groups_text, HashedFile}
-use Rattle.gf_run.specs.Faults.{IsRefusal, answer_status, is_of_second}
+use Rattle.gf_run.specs.Faults.{answer_status, is_of_second}
+use Rattle.gf_run.specs.Texts.{IsRefusal, AreCanonical, IsAnswer, IsLine, IsLineAndMap}
 use Rattle.gf_run.specs.Streams.{IsNotRead, IsReadWhole, Stream}
-use Rattle.gf_jobs.specs.LedTo.{AreFilesOf}
+use Rattle.gf_jobs.specs.LedTo.{AreLedTo, Seen}
 use Rattle.gf_jobs.specs.Lines.{names_in, ReadsHash, RunsLine, RunsOne}
 use Rattle.gf_jobs.specs.Opening.{Opener, Opens, OpensBoth, OpensFile, file_named, file_of}
 use Rattle.gf_jobs.specs.Opening.{bytes_kept, kept_at_first, kept_reader, source_of}
 use Rattle.gf_jobs.specs.Reports.{Ends, IsReported, IsSent, IsNamedReport, called, name_of}
 use Rattle.gf_run.specs.Run.{Reads, RunsTwo, Writes}
-use Rattle.gf_run.specs.Texts.{AreCanonical, IsAnswer, IsLine, IsLineAndMap}
 use Rattle.gf_jobs.specs.declared.collections.file.CollectionFile.{CollectionFile}
 use Rattle.gf_jobs.specs.declared.collections.kept_files.Repeats.{Repeats}
 use Rattle.gf_jobs.specs.declared.collections.line.FileLine.{FileLine}
@@ -92,11 +92,6 @@ module _ {A : Type 0} (Next : (ends : Bool) → CollectionFile → ℕ → A →
 
 -- ---- a text in the place of each file
 
--- the fault of a file whose text could not be put in its place, by the error of the system
-abbrev pub IsUnreplaced : Error → RunFault → Type 0
-IsUnreplaced error fault = (error_kind error ≡ ErrorKind.OutOfMemory → fault ≡ RunFault.Memory)
-    × (error_kind error ≢ ErrorKind.OutOfMemory → fault ≡ RunFault.Write)
-
 -- for what opens inputs and replaces files
 module _ {I S : Type 0} (opener : Opener I S) where
   -- a text was put in the place of a file, if it could be, and nothing is against this file then;
@@ -105,7 +100,9 @@ module _ {I S : Type 0} (opener : Opener I S) where
   IsReplacedBy (CollectionFile.Input (Input.File name)) text (Ok good) i i' =
       (good ≡ true) × opener.replaced i (string_bytes name) text (Ok tt) i'
   IsReplacedBy (CollectionFile.Input (Input.File name)) text (Err fault) i i' = (error : Error)
-      × opener.replaced i (string_bytes name) text (Err error) i' × IsUnreplaced error fault
+      × opener.replaced i (string_bytes name) text (Err error) i'
+      × (error_kind error ≡ ErrorKind.OutOfMemory → fault ≡ RunFault.Memory)
+      × (error_kind error ≢ ErrorKind.OutOfMemory → fault ≡ RunFault.Write)
   IsReplacedBy file text result i i' = (result ≡ Err RunFault.Write) × (i' ≡ i)
 
   -- what is done about a file that has these bytes
@@ -258,7 +255,8 @@ module _ {I S W E : Type 0} (opener : Opener I S) (reader : Stream S) (writer : 
     -- reported, as far as the writer allowed; and the task was done for the files
     found : (names : List (List ℕ)) (files : List CollectionFile) (report : List ℕ)
         (mid : World I W E) → AreNames opener reader paths (Ok names) a.inputs mid.inputs
-        → mid.output ≡ a.output → AreFilesOf opener mid.inputs (repeats_of task) names files report
+        → mid.output ≡ a.output → (seen : Seen)
+        → AreLedTo opener mid.inputs (repeats_of task) names seen files report
         → IsSent errors report a.errors mid.errors
         → Does task files status mid b → PerformsAll task paths status a b
     -- they are not, or memory for that report ran out, which was reported

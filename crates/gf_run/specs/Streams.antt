@@ -1,5 +1,4 @@
--- What a reader or a writer shows of itself, and what it was asked and answered, request by request; and
--- how an input is read, and how an output is written.
+-- What a reader or a writer shows, is asked and answers, and how an input is read and an output written.
 use Rattle.std.specs.Prelude.{◌≡◌, ◌≢◌, ◌⊎◌, ℕ, ◌+◌, ◌-◌, ◌^◌, ◌<◌, ◌≤◌, min, max, zero, suc, List}
 use Rattle.std.specs.Prelude.{[], ◌++◌, length, take, Option, Some, Result, Ok, Err, MatchResult}
 use Rattle.std.specs.Io.KnownBytes.{Appends, Consumes, IsAtEnd, Keeps}

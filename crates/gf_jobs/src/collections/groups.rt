@@ -4,7 +4,7 @@ ghost use Rattle.std.specs.Prelude.{◌≡◌, List, [], ◌∷◌, ◌++◌, ma
 ghost use Rattle.std.specs.Prelude.{if◌then◌else◌};
 ghost use Rattle.gf_jobs.specs.Duplicates.{HashedFile, are_apart, duplicates};
 ghost use Rattle.gf_jobs.specs.Duplicates.{groups_text, name_lines};
-ghost use Rattle.gf_jobs.specs.Lines.{end_text};
+ghost use Rattle.gf_jobs.specs.Lines.{end_byte};
 ghost use Rattle.gf_jobs.specs.inner.KeptNames.{IsKeptOf, KeptNames};
 
 use crate::collections::name::push_name_line;
@@ -41,7 +41,7 @@ fn push_group(
     end: LineEnd,
     first: bool,
 ) -> Result<(), AllocError>
-    ensures { OnOk result (text.new.items ≡ text.old.items ++ (if first then [] else end_text end)
+    ensures { OnOk result (text.new.items ≡ text.old.items ++ (if first then [] else end_byte end ∷ [])
         ++ name_lines end (map (λ name. name.now) names.now)) }
 {
     if !first {
