@@ -1,6 +1,6 @@
 -- Which of the files that were read are the same game, and the text that names them.
-use Rattle.std.specs.Prelude.{ℕ, Bool, nat_lt, not, List, [], ◌∷◌, length, map}
-use Rattle.std.specs.List.{Contains, filter, flat_map, join_by, list_any}
+use Rattle.std.specs.Prelude.{ℕ, Bool, nat_lt, List, [], ◌∷◌, length, map}
+use Rattle.std.specs.List.{Contains, filter, flat_map, join_by}
 use Rattle.std.specs.Str.{bytes_eq}
 use Rattle.gf_tree.specs.FiniteMap.{first_uses}
 use Rattle.gf_words.specs.declared.job.LineEnd.{LineEnd}
@@ -36,13 +36,9 @@ names_of files = map (λ file. file.name) files
 abbrev pub has_two : List (List ℕ) → Bool
 has_two names = nat_lt 1 (length names)
 
--- the names of the groups of two files or more
-abbrev pub duplicates : List HashedFile → List (List (List ℕ))
-duplicates files = filter has_two (map names_of (groups_of files))
-
--- whether no two files have one hash
-abbrev pub are_apart : List HashedFile → Bool
-are_apart files = not (list_any has_two (map names_of (groups_of files)))
+-- the names of the files of each group
+abbrev pub named_groups : List HashedFile → List (List (List ℕ))
+named_groups files = map names_of (groups_of files)
 
 -- a line for each name
 abbrev pub name_lines : LineEnd → List (List ℕ) → List ℕ
