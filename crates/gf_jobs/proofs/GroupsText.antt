@@ -7,17 +7,17 @@ use Rattle.std.proofs.lemmas.List.{append-nil, drop_all, get_or-map, length-map}
 use Rattle.std.specs.List.{flat_map, list_any}
 use Rattle.gf_words.specs.declared.job.LineEnd.{LineEnd}
 use Rattle.gf_jobs.specs.Duplicates.{groups_text, has_two, name_lines}
-use Rattle.gf_jobs.specs.Lines.{end_text}
+use Rattle.gf_jobs.specs.Lines.{end_byte}
 use Rattle.gf_jobs.proofs.Going.{left_at}
 
 -- the text of these groups, if they are the first ones, and if they come after others
 abbrev left_text : LineEnd → Bool → List (List (List ℕ)) → List ℕ
 left_text end true groups = groups_text end groups
-left_text end false groups = flat_map (λ names. end_text end ++ name_lines end names) groups
+left_text end false groups = flat_map (λ names. end_byte end ∷ name_lines end names) groups
 
 begins : (end : LineEnd) (apart : Bool) (first : List (List ℕ)) (rest : List (List (List ℕ)))
     → left_text end apart (first ∷ rest)
-    ≡ (if apart then [] else end_text end) ++ name_lines end first ++ left_text end false rest
+    ≡ (if apart then [] else end_byte end ∷ []) ++ name_lines end first ++ left_text end false rest
 begins end apart first rest = grind arith
 
 module _ (end : LineEnd) (names : List (List (List ℕ))) where
@@ -43,11 +43,11 @@ module _ (end : LineEnd) (names : List (List (List ℕ))) where
     passed few = grind (arith, le-ltb, left)
 
     pub added : 2 ≤ length (F item) → (new : List ℕ)
-        → new ≡ text ++ (if apart then [] else end_text end) ++ name_lines end (F item)
+        → new ≡ text ++ (if apart then [] else end_byte end ∷ []) ++ name_lines end (F item)
         → IsOn (at + 1) new false
     added many new e =
         let two : has_two (F item) ≡ true = lt-ltb 1 (length (F item)) (omega (arith, many)) in
-        let before : List ℕ = if apart then [] else end_text end in
+        let before : List ℕ = if apart then [] else end_byte end ∷ [] in
         let rest = left_text end false (filter has_two (drop (at + 1) names)) in
         record {
           told = rw (

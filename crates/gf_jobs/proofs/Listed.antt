@@ -5,7 +5,7 @@ use Rattle.std.proofs.lemmas.List.{append_assoc}
 use Rattle.std.proofs.lemmas.Option.{same_Some}
 use Rattle.std.specs.Io.BufRead.{DropsThrough, drop_through, first_piece, strip_last}
 use Rattle.std.specs.List.{flat_map}
-use Rattle.gf_jobs.specs.Listed.{end_byte, lines_of, name_in, names_in}
+use Rattle.gf_jobs.specs.Lines.{end_byte, lines_of, name_in, names_in}
 use Rattle.gf_words.specs.declared.job.LineEnd.{LineEnd}
 
 -- a byte before others that are not all

@@ -4,8 +4,7 @@ use Rattle.std.proofs.Common.{inl, inr, refl, subst}
 use Rattle.std.specs.Prelude.{⊤, Option}
 use Rattle.std.specs.Result.{result_map_both}
 use Rattle.std.specs.declared.io.Error.{Error}
-use Rattle.gf_run.specs.Streams.{Stream}
-use Rattle.gf_run.specs.Transfers.{IsWriteFault, IsWritten}
+use Rattle.gf_run.specs.Streams.{Stream, IsWriteFault, IsWritten}
 use Rattle.gf_run.specs.declared.fault.RunFault.{RunFault}
 use Rattle.gf_run.specs.declared.fault.Which.{Which}
 use Rattle.gf_jobs.specs.Opening.{Opener, OpensBoth}

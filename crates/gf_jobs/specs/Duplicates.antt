@@ -1,10 +1,10 @@
 -- Which of the files that were read are the same game, and the text that names them.
-use Rattle.std.specs.Prelude.{ℕ, Bool, nat_lt, not, List, [], length, map}
-use Rattle.std.specs.List.{Contains, filter, flat_map, join_by, list_any}
+use Rattle.std.specs.Prelude.{ℕ, Bool, nat_lt, List, [], ◌∷◌, length, map}
+use Rattle.std.specs.List.{Contains, filter, flat_map, join_by}
 use Rattle.std.specs.Str.{bytes_eq}
 use Rattle.gf_tree.specs.FiniteMap.{first_uses}
 use Rattle.gf_words.specs.declared.job.LineEnd.{LineEnd}
-use Rattle.gf_jobs.specs.Lines.{end_text, name_line}
+use Rattle.gf_jobs.specs.Lines.{end_byte, name_line}
 
 -- a file that was read: its name, and the hash of its canonical text
 pub record HashedFile : Type 0 where
@@ -24,11 +24,9 @@ abbrev pub groups_of : List HashedFile → List (List HashedFile)
 groups_of files = map (having files) (hashes_of files)
 
 -- two files are in one group of these files
-pub record AreInOneGroup (files : List HashedFile) (a b : HashedFile) : Type 0 where
-  pub group : List HashedFile
-  pub is_group : Contains (groups_of files) group
-  pub first : Contains group a
-  pub second : Contains group b
+abbrev pub AreInOneGroup : List HashedFile → (a b : HashedFile) → Type 0
+AreInOneGroup files a b = (group : List HashedFile) × Contains (groups_of files) group
+    × Contains group a × Contains group b
 
 -- the names of files
 abbrev pub names_of : List HashedFile → List (List ℕ)
@@ -38,13 +36,9 @@ names_of files = map (λ file. file.name) files
 abbrev pub has_two : List (List ℕ) → Bool
 has_two names = nat_lt 1 (length names)
 
--- the names of the groups of two files or more
-abbrev pub duplicates : List HashedFile → List (List (List ℕ))
-duplicates files = filter has_two (map names_of (groups_of files))
-
--- whether no two files have one hash
-abbrev pub are_apart : List HashedFile → Bool
-are_apart files = not (list_any has_two (map names_of (groups_of files)))
+-- the names of the files of each group
+abbrev pub named_groups : List HashedFile → List (List (List ℕ))
+named_groups files = map names_of (groups_of files)
 
 -- a line for each name
 abbrev pub name_lines : LineEnd → List (List ℕ) → List ℕ
@@ -52,4 +46,4 @@ name_lines end names = flat_map (name_line end []) names
 
 -- the names of groups, with an empty line between two groups
 abbrev pub groups_text : LineEnd → List (List (List ℕ)) → List ℕ
-groups_text end groups = join_by (name_lines end) (end_text end) groups
+groups_text end groups = join_by (name_lines end) (end_byte end ∷ []) groups

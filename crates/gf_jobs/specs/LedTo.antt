@@ -45,10 +45,6 @@ Seen = BTreeSet (ℕ × ℕ)
 abbrev pub by_identity : ℕ × ℕ → ℕ × ℕ → Ordering
 by_identity a b = ordering_then (nat_cmp a.0 b.0) (nat_cmp a.1 b.1)
 
--- one more has
-abbrev pub IsOneMore : ℕ × ℕ → Seen → Seen → Type 0
-IsOneMore identity old new = new.keys ≡ insert_key by_identity old.keys identity
-
 -- ---- what becomes of what is looked at
 
 -- it is kept, or no game file
@@ -71,7 +67,8 @@ abbrev pub IsNoted : Repeats → (named may_be_game : Bool) → (file : ℕ × �
     → Type 0
 IsNoted repeats named false file old new fate = (new ≡ old) × (fate ≡ Fate.NoGame)
 IsNoted Repeats.Kept named true file old new fate = (new ≡ old) × (fate ≡ Fate.Kept)
-IsNoted Repeats.PassedOver named true file old new fate = IsOneMore file old new
+IsNoted Repeats.PassedOver named true file old new fate =
+    (new.keys ≡ insert_key by_identity old.keys file)
     × (fate ≡ if named || not (contains by_identity old file) then Fate.Kept else Fate.PassedOver)
 
 -- for what shows which files there are, as it is; `repeats` says whether a file is kept again
@@ -85,7 +82,7 @@ module _ {I S : Type 0} (opener : Opener I S) (i : I) (repeats : Repeats) where
     -- what is in it is looked at next; it is kept if its names are not all known, and then cannot be
     -- read either
     first : (names : List (List ℕ)) (is_whole : Bool) (inside : List CollectionFile)
-        → contains by_identity old folder ≡ false → IsOneMore folder old new
+        → contains by_identity old folder ≡ false → new.keys ≡ insert_key by_identity old.keys folder
         → opener.listed i (folder_at path) names is_whole → AreIn (folder_at path) names inside
         → Enters path folder old new inside (kept_if (not is_whole))
 
@@ -144,7 +141,3 @@ module _ {I S : Type 0} (opener : Opener I S) (i : I) (repeats : Repeats) where
         → AreLedTo names old files report → LeadsTo name old new own some
         → AreLedTo (names ++ name ∷ []) new (files ++ own) (report
         ++ (if some then [] else after_name (utf8_lossy name) (codes "no game files\n")))
-
-  -- the files of these names, and what is reported of them
-  abbrev pub AreFilesOf : List (List ℕ) → List CollectionFile → (report : List ℕ) → Type 0
-  AreFilesOf names files report = (seen : Seen) × AreLedTo names seen files report

@@ -1,7 +1,6 @@
 pub mod Duplicates
 pub mod LedTo
 pub mod Lines
-pub mod Listed
 pub mod Opening
 pub mod Performs
 pub mod Reports

@@ -1,7 +1,8 @@
--- The line about one of several files, and the runs over one file by what is done with it.
+-- The names in a list, the line about one of several files, and the runs over one file by what is done.
 use Rattle.std.specs.Prelude.{◌≡◌, ℕ, Bool, true, List, [], ◌∷◌, ◌++◌, ◌||◌, nat_eq, codes}
-use Rattle.std.specs.Prelude.{if◌then◌else◌, Result, Ok, ⊤, MatchResult}
-use Rattle.std.specs.List.{flat_map, list_any}
+use Rattle.std.specs.Prelude.{filter, if◌then◌else◌, length, nat_lt, Result, Ok, ⊤, MatchResult}
+use Rattle.std.specs.Io.BufRead.{strip_last}
+use Rattle.std.specs.List.{flat_map, list_any, onto_first}
 use Rattle.std.specs.Result.{result_and}
 use Rattle.hex.specs.Hex.{encode_lower}
 use Rattle.sha2.specs.Sha256.{sha256}
@@ -11,22 +12,38 @@ use Rattle.gf_canon.specs.NamesAside.{IsTextBy}
 use Rattle.gf_canon.specs.declared.kind.FileKind.{FileKind}
 use Rattle.gf_explain.specs.Shown.{shown_name}
 use Rattle.gf_words.specs.declared.job.LineEnd.{LineEnd}
-use Rattle.gf_run.specs.Faults.{IsFaultOfFile, IsRefusal}
+use Rattle.gf_run.specs.Texts.{IsFaultOfFile, IsRefusal, AreCanonical, kind_line}
 use Rattle.gf_run.specs.Run.{Reads, Runs, RunsCanonBy, RunsCheck, RunsTable}
-use Rattle.gf_run.specs.Streams.{Stream}
-use Rattle.gf_run.specs.Texts.{AreCanonical, kind_line}
-use Rattle.gf_run.specs.Transfers.{IsNotRead, IsReadWhole}
+use Rattle.gf_run.specs.Streams.{Stream, IsNotRead, IsReadWhole}
 use Rattle.gf_run.specs.declared.fault.RunFault.{RunFault}
 use Rattle.gf_run.specs.declared.fault.Which.{Which}
-use Rattle.gf_jobs.specs.Listed.{end_byte}
 use Rattle.gf_jobs.specs.declared.collections.line.FileLine.{FileLine}
 use Rattle.gf_jobs.specs.declared.jobs.one_file.OneTask.{OneTask}
 
--- ---- a name
+-- ---- the end of a line, and the names in a list
 
--- what ends a line
-abbrev pub end_text : LineEnd → List ℕ
-end_text end = end_byte end ∷ []
+-- the byte that ends a line
+abbrev pub end_byte : LineEnd → ℕ
+end_byte LineEnd.LineFeed = 10
+end_byte LineEnd.Null = 0
+
+-- the lines of a text; this byte ends each, and may be missing after the last one
+abbrev pub lines_of : ℕ → List ℕ → List (List ℕ)
+lines_of byte [] = []
+lines_of byte (x ∷ xs) =
+    if nat_eq x byte then [] ∷ lines_of byte xs else onto_first x (lines_of byte xs)
+
+-- the name in a line, if it has one: where line feeds end lines, a carriage return at the end is left
+-- out, and an empty line has no name
+abbrev pub name_in : LineEnd → List ℕ → List (List ℕ)
+name_in LineEnd.LineFeed line = filter (λ name. nat_lt 0 (length name)) (strip_last 13 line ∷ [])
+name_in LineEnd.Null line = line ∷ []
+
+-- the names in a list
+abbrev pub names_in : LineEnd → List ℕ → List (List ℕ)
+names_in end bytes = flat_map (name_in end) (lines_of (end_byte end) bytes)
+
+-- ---- a name
 
 -- a line feed, a carriage return or a backslash
 abbrev pub is_escaped : ℕ → Bool
@@ -51,10 +68,8 @@ after_name name text = shown_name name ++ codes ": " ++ text
 -- ---- the line about a file
 
 -- the bytes mean a file, and this is the hash of its canonical text
-pub record IsHashOf (names : Names) (bytes hash : List ℕ) : Type 0 where
-  pub text : List ℕ
-  pub is_text : IsTextBy names bytes text
-  pub is_hash : hash ≡ sha256 text
+abbrev pub IsHashOf : Names → (bytes hash : List ℕ) → Type 0
+IsHashOf names bytes hash = (text : List ℕ) × IsTextBy names bytes text × (hash ≡ sha256 text)
 
 -- the text is what is written about a file of this name with these bytes; `good` is false if it is
 -- named because something is against it

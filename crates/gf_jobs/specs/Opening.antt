@@ -1,6 +1,5 @@
--- What is looked at and opened for a job; and what the readers and writers of the program show, which
--- wrap others.
-use Rattle.std.specs.Prelude.{◌≡◌, ◌⊎◌, ℕ, Bool, true, false, List, [], ◌++◌, take, codes, Option, Some}
+-- What is looked at and opened for a job, and what readers and writers that wrap others show.
+use Rattle.std.specs.Prelude.{◌≡◌, ◌⊎◌, ℕ, Bool, List, [], ◌++◌, take, codes, Option, Some}
 use Rattle.std.specs.Prelude.{None, if◌then◌else◌, option_map, IfOk, MatchResult, Result, Ok, Err, ⊤}
 use Rattle.std.specs.Str.{bytes_eq}
 use Rattle.std.specs.String.{string_bytes}
@@ -72,8 +71,7 @@ bytes_kept kept = option_map (λ bytes. bytes.items) kept.bytes
 
 -- the bytes that it has kept before the first pull
 abbrev pub kept_at_first : Bool → Option (List ℕ)
-kept_at_first false = None
-kept_at_first true = Some []
+kept_at_first keeps = if keeps then Some [] else None
 
 -- what is kept before a pull, its buffer, its answer, and what is kept after it
 abbrev pub Keeps : Option (List ℕ) → List ℕ → Result ℕ Error → Option (List ℕ) → Type 0
@@ -109,8 +107,7 @@ host_opener {S = S} {F = F} = record {
   replaced = λ _ _ _ _ _. Unit {0};
 }
 
--- ---- a writer that erases what is in a line of a terminal before it begins one
-
--- what the writer that it wraps holds, if it erases nothing and that one reports it
+-- what a writer holds that erases what is in a line before it begins one: what the writer that it wraps
+-- holds, if it erases nothing and that one reports it
 abbrev pub held_by : {W : Type 0} → (W → Option (List ℕ)) → Erasing W → Option (List ℕ)
 held_by contents erasing = if erasing.erases then None else contents erasing.terminal

@@ -1,7 +1,8 @@
 -- What the program does for each job, and for the files of a collection one after another.
 use Rattle.std.specs.Prelude.{◌≡◌, ◌≢◌, ◌⊎◌, ℕ, Bool, max, List, [], ◌∷◌, ◌++◌, Option, Some, None}
-use Rattle.std.specs.Prelude.{Result, Ok, Err, IsOk, true, false, codes, if◌then◌else◌, map}
+use Rattle.std.specs.Prelude.{Result, Ok, Err, IsOk, true, false, codes, if◌then◌else◌, map, not}
 use Rattle.std.specs.Prelude.{IfSome, MatchResult}
+use Rattle.std.specs.List.{filter, list_any}
 use Rattle.std.specs.String.{string_bytes}
 use Rattle.std.specs.IoError.{error_kind}
 use Rattle.std.specs.declared.io.Error.{Error}
@@ -14,18 +15,16 @@ use Rattle.gf_form.specs.declared.forms.Strategies.{Strategies}
 use Rattle.gf_words.specs.declared.job.Input.{Input}
 use Rattle.gf_words.specs.declared.job.Job.{Job}
 use Rattle.gf_words.specs.declared.job.Paths.{Paths}
-use Rattle.gf_jobs.specs.Duplicates.{are_apart, duplicates, groups_text, HashedFile}
-use Rattle.gf_run.specs.Faults.{IsRefusal, answer_status, is_of_second}
-use Rattle.gf_run.specs.Transfers.{IsNotRead, IsReadWhole}
-use Rattle.gf_jobs.specs.LedTo.{AreFilesOf}
-use Rattle.gf_jobs.specs.Listed.{names_in}
+use Rattle.gf_jobs.specs.Duplicates.{HashedFile, groups_text, has_two, named_groups}
+use Rattle.gf_run.specs.Faults.{answer_status, is_of_second}
+use Rattle.gf_run.specs.Texts.{IsRefusal, AreCanonical, IsAnswer, IsLine, IsLineAndMap}
+use Rattle.gf_run.specs.Streams.{IsNotRead, IsReadWhole, Stream}
+use Rattle.gf_jobs.specs.LedTo.{AreLedTo, Seen}
+use Rattle.gf_jobs.specs.Lines.{names_in, ReadsHash, RunsLine, RunsOne}
 use Rattle.gf_jobs.specs.Opening.{Opener, Opens, OpensBoth, OpensFile, file_named, file_of}
 use Rattle.gf_jobs.specs.Opening.{bytes_kept, kept_at_first, kept_reader, source_of}
 use Rattle.gf_jobs.specs.Reports.{Ends, IsReported, IsSent, IsNamedReport, called, name_of}
 use Rattle.gf_run.specs.Run.{Reads, RunsTwo, Writes}
-use Rattle.gf_jobs.specs.Lines.{ReadsHash, RunsLine, RunsOne}
-use Rattle.gf_run.specs.Streams.{Stream}
-use Rattle.gf_run.specs.Texts.{AreCanonical, IsAnswer, IsLine, IsLineAndMap}
 use Rattle.gf_jobs.specs.declared.collections.file.CollectionFile.{CollectionFile}
 use Rattle.gf_jobs.specs.declared.collections.kept_files.Repeats.{Repeats}
 use Rattle.gf_jobs.specs.declared.collections.line.FileLine.{FileLine}
@@ -94,11 +93,6 @@ module _ {A : Type 0} (Next : (ends : Bool) → CollectionFile → ℕ → A →
 
 -- ---- a text in the place of each file
 
--- the fault of a file whose text could not be put in its place, by the error of the system
-abbrev pub IsUnreplaced : Error → RunFault → Type 0
-IsUnreplaced error fault = (error_kind error ≡ ErrorKind.OutOfMemory → fault ≡ RunFault.Memory)
-    × (error_kind error ≢ ErrorKind.OutOfMemory → fault ≡ RunFault.Write)
-
 -- for what opens inputs and replaces files
 module _ {I S : Type 0} (opener : Opener I S) where
   -- a text was put in the place of a file, if it could be, and nothing is against this file then;
@@ -107,7 +101,9 @@ module _ {I S : Type 0} (opener : Opener I S) where
   IsReplacedBy (CollectionFile.Input (Input.File name)) text (Ok good) i i' =
       (good ≡ true) × opener.replaced i (string_bytes name) text (Ok tt) i'
   IsReplacedBy (CollectionFile.Input (Input.File name)) text (Err fault) i i' = (error : Error)
-      × opener.replaced i (string_bytes name) text (Err error) i' × IsUnreplaced error fault
+      × opener.replaced i (string_bytes name) text (Err error) i'
+      × (error_kind error ≡ ErrorKind.OutOfMemory → fault ≡ RunFault.Memory)
+      × (error_kind error ≢ ErrorKind.OutOfMemory → fault ≡ RunFault.Write)
   IsReplacedBy file text result i i' = (result ≡ Err RunFault.Write) × (i' ≡ i)
 
   -- what is done about a file that has these bytes
@@ -129,13 +125,6 @@ module _ {I S : Type 0} (opener : Opener I S) where
   Rewrites reader names file result s s' i i' = Reads (IsReadWhole (kept_reader reader))
       (IsNotRead (kept_reader reader) Which.Only) (IsRewritten names file i i') (i' ≡ i) result s s'
 
--- ---- over two files
-
--- of two files, the one that the result of a run over both is about
-abbrev pub of_fault : {A T : Type 0} → Result A RunFault → T → T → T
-of_fault (Ok answer) first second = first
-of_fault (Err fault) first second = if is_of_second fault then second else first
-
 -- ---- over the files of a collection
 
 -- whether a file is kept that a folder has by a second name
@@ -143,22 +132,20 @@ abbrev pub repeats_of : Task → Repeats
 repeats_of (Task.Duplicates names end) = Repeats.PassedOver
 repeats_of task = Repeats.Kept
 
--- for what opens inputs, and what an input reports: which names a collection has, or why they are not
--- known, and what is opened to learn them
-module _ {I S : Type 0} (opener : Opener I S) (reader : Stream S) where
-  -- the names that were given, or `-` if there are none, unless memory ran out; or those in a list, which
-  -- is opened once, if the bytes of this list are known, unless memory ran out, the list could not be
-  -- opened, or it is said not to be read
-  abbrev pub AreNames : Paths → Result (List (List ℕ)) RunFault → I → I → Type 0
-  AreNames Paths.Standard result i i' = (i' ≡ i)
-      × MatchResult result (λ names. names ≡ codes "-" ∷ []) (λ fault. fault ≡ RunFault.Memory)
-  AreNames (Paths.Named words) result i i' = (i' ≡ i) × MatchResult result
-      (λ names. names ≡ map string_bytes words.items) (λ fault. fault ≡ RunFault.Memory)
-  AreNames (Paths.List list end) result i i' = (answer : Result S Error)
-      × Opens opener (file_of list) i answer i' × MatchResult answer
-      (λ s. MatchResult result (λ names. IfSome (reader.known s) (λ bytes. names ≡ names_in end bytes))
-      (λ fault. (fault ≡ RunFault.Memory) ⊎ (fault ≡ RunFault.Read Which.Only)))
-      (λ error. result ≡ Err (RunFault.Read Which.Only))
+-- Which names a collection has, or why they are not known: the names that were given, or `-` if there
+-- are none, unless memory ran out; or those in a list, which is opened once, if the bytes of this list are
+-- known, unless memory ran out, the list could not be opened, or it is said not to be read.
+abbrev pub AreNames : {I S : Type 0} → Opener I S → Stream S → Paths
+    → Result (List (List ℕ)) RunFault → I → I → Type 0
+AreNames opener reader Paths.Standard result i i' = (i' ≡ i)
+    × MatchResult result (λ names. names ≡ codes "-" ∷ []) (λ fault. fault ≡ RunFault.Memory)
+AreNames opener reader (Paths.Named words) result i i' = (i' ≡ i) × MatchResult result
+    (λ names. names ≡ map string_bytes words.items) (λ fault. fault ≡ RunFault.Memory)
+AreNames {S = S} opener reader (Paths.List list end) result i i' = (answer : Result S Error)
+    × Opens opener (file_of list) i answer i' × MatchResult answer
+    (λ s. MatchResult result (λ names. IfSome (reader.known s) (λ bytes. names ≡ names_in end bytes))
+    (λ fault. (fault ≡ RunFault.Memory) ⊎ (fault ≡ RunFault.Read Which.Only)))
+    (λ error. result ≡ Err (RunFault.Read Which.Only))
 
 -- It was reported why no file is opened: a list could not be read, which is said after its name, and
 -- explained if `explain` is true; or memory ran out.
@@ -173,6 +160,11 @@ IsListReport errors explain fault paths = IsReported errors [] None fault
 abbrev pub IsAnswerBy : Bool → Names → Bool → List ℕ → List ℕ → List ℕ → Type 0
 IsAnswerBy true names = IsAnswer SameFile IsLineAndMap
 IsAnswerBy false names = IsAnswer (SameBy names) IsLine
+
+-- of two files, the one that the result of a run over both is about
+abbrev pub of_fault : {A T : Type 0} → Result A RunFault → T → T → T
+of_fault (Ok answer) first second = first
+of_fault (Err fault) first second = if is_of_second fault then second else first
 
 -- for what opens inputs, for the inputs, for standard output and for standard error; `explain` says
 -- whether a fault is explained
@@ -242,8 +234,9 @@ module _ {I S W E : Type 0} (opener : Opener I S) (reader : Stream S) (writer : 
   abbrev pub Closes : Task → ℕ → World I (W × List HashedFile) E → World I (W × List HashedFile) E
       → Type 0
   Closes (Task.Duplicates names end) status a b = (result : Result Bool RunFault)
-      × (b.inputs ≡ a.inputs) × Writes writer (λ apart text. (apart ≡ are_apart a.output.1)
-      × (text ≡ groups_text end (duplicates a.output.1))) (λ why. why ≡ RunFault.Memory)
+      × (b.inputs ≡ a.inputs) × Writes writer (λ apart text.
+      (apart ≡ not (list_any has_two (named_groups a.output.1)))
+      × (text ≡ groups_text end (filter has_two (named_groups a.output.1)))) (λ why. why ≡ RunFault.Memory)
       result a.output.0 b.output.0
       × Ends (IsReported errors []) answer_status result (kept_at_first explain) status
       a.errors b.errors
@@ -260,7 +253,8 @@ module _ {I S W E : Type 0} (opener : Opener I S) (reader : Stream S) (writer : 
     -- reported, as far as the writer allowed; and the task was done for the files
     found : (names : List (List ℕ)) (files : List CollectionFile) (report : List ℕ)
         (mid : World I W E) → AreNames opener reader paths (Ok names) a.inputs mid.inputs
-        → mid.output ≡ a.output → AreFilesOf opener mid.inputs (repeats_of task) names files report
+        → mid.output ≡ a.output → (seen : Seen)
+        → AreLedTo opener mid.inputs (repeats_of task) names seen files report
         → IsSent errors report a.errors mid.errors
         → Does task files status mid b → PerformsAll task paths status a b
     -- they are not, or memory for that report ran out, which was reported

@@ -4,10 +4,8 @@ use Rattle.std.specs.String.{string_bytes}
 use Rattle.gf_words.specs.declared.fault.WordsFault.{WordsFault}
 use Rattle.gf_words.specs.declared.job.Input.{Input}
 use Rattle.gf_explain.specs.Explained as refusal
-use Rattle.gf_explain.specs.Explained.{IsSaidAfter}
 use Rattle.gf_run.specs.Faults.{fault_line, short_line, status_of}
-use Rattle.gf_run.specs.Transfers.{IsWriteFault, IsWritten}
-use Rattle.gf_run.specs.Streams.{Stream}
+use Rattle.gf_run.specs.Streams.{IsWriteFault, IsWritten, Stream}
 use Rattle.gf_jobs.specs.Lines.{after_name}
 use Rattle.gf_jobs.specs.declared.collections.file.CollectionFile.{CollectionFile}
 use Rattle.gf_run.specs.declared.fault.RunFault.{RunFault}
@@ -26,7 +24,7 @@ name_of (CollectionFile.NotText name) = string_bytes name
 -- the line of the fault, and after it what is shown
 abbrev pub IsExplained : RunFault → List ℕ → List ℕ → List ℕ → Type 0
 IsExplained (RunFault.Refused which fault) name bytes text = refusal.IsExplained fault name bytes text
-IsExplained fault name bytes text = IsSaidAfter (short_line fault) text
+IsExplained fault name bytes text = refusal.IsSaidAfter (short_line fault) text
 
 -- one that begins with the name of its file, also if it names no place
 abbrev pub IsNamedExplanation : RunFault → List ℕ → List ℕ → List ℕ → Type 0

@@ -6,8 +6,8 @@ ghost use Rattle.gf_words.specs.GameNames.{is_game_name};
 ghost use Rattle.gf_words.specs.declared.job.LineEnd.{LineEnd};
 ghost use Rattle.gf_jobs.specs.Duplicates.{AreInOneGroup, HashedFile};
 ghost use Rattle.gf_jobs.specs.LedTo.{folder_at};
-ghost use Rattle.gf_jobs.specs.Listed.{names_in};
-ghost use Rattle.gf_run.specs.Transfers.{IsReadWhole};
+ghost use Rattle.gf_jobs.specs.Lines.{names_in};
+ghost use Rattle.gf_run.specs.Streams.{IsReadWhole};
 ghost use Rattle.gf_jobs.specs.Opening.{bytes_kept, kept_reader};
 ghost use Rattle.gf_jobs.specs.declared.opening.kept.Kept.{Kept};
 

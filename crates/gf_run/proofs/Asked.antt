@@ -1,14 +1,12 @@
 -- A reader or a writer that is asked turn by turn.
 use Rattle.std.proofs.Common.{◌≡◌, ℕ, ◌+◌, ◌-◌, ◌<◌, ◌≤◌, List, ◌++◌, length, take, drop, add-one}
-use Rattle.std.proofs.Common.{append_assoc, arith, length-append, length-drop}
-use Rattle.std.proofs.Common.{take-append-drop}
+use Rattle.std.proofs.Common.{append_assoc, arith, length-append, length-drop, take-append-drop}
 use Rattle.std.proofs.KnownBytes.{Appends-nil, Appends-trans, Keeps-refl, Keeps-trans}
 use Rattle.std.proofs.lemmas.List.{take_all}
 use Rattle.std.specs.Io.KnownBytes.{Appends, Keeps}
 use Rattle.std.specs.declared.io.ErrorKind.{ErrorKind}
-use Rattle.gf_run.specs.Streams.{HasRisen, Interruptions, IsError, Moves, Stream, more}
-use Rattle.gf_run.specs.Streams.{next_count, none}
-use Rattle.gf_run.specs.Transfers.{IsBegun, IsNext, IsOffer, IsWriteFault, Stops}
+use Rattle.gf_run.specs.Streams.{HasRisen, Interruptions, IsError, Moves, Stream, more, next_count}
+use Rattle.gf_run.specs.Streams.{none, IsBegun, IsNext, IsOffer, IsWriteFault, Stops}
 
 -- ---- again after an interruption
 

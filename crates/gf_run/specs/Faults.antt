@@ -1,15 +1,8 @@
--- The faults of a run: where they come from, which bytes have them, which input each is about, its exit
--- status, and its line on standard error.
-use Rattle.std.specs.Prelude.{◌≡◌, ℕ, Bool, true, false, List, [], ◌++◌, codes}
+-- The faults of a run: where they come from, which input each is about, its exit status, and its line.
+use Rattle.std.specs.Prelude.{ℕ, Bool, true, false, List, [], ◌++◌, codes, if◌then◌else◌}
 use Rattle.gf_token.specs.declared.fault.Why.{Why}
-use Rattle.gf_tree.specs.Game.{Game}
-use Rattle.gf_canon.specs.CanonicalText.{SpellsWithin}
-use Rattle.gf_canon.specs.GameFile.{GameFile}
-use Rattle.gf_canon.specs.Judgement.{IsRefusedWith, MeansFile}
 use Rattle.gf_canon.specs.declared.sameness.SameFault.{SameFault}
 use Rattle.gf_token.specs.declared.form_fault.FormFault.{FormFault}
-use Rattle.gf_form.specs.Forms.{IsWithoutForm}
-use Rattle.gf_form.specs.declared.forms.Strategies.{Strategies}
 use Rattle.gf_explain.specs.FaultLine.{form_text, place_text}
 use Rattle.gf_run.specs.declared.fault.RunFault.{RunFault}
 use Rattle.gf_run.specs.declared.fault.Which.{Which}
@@ -31,33 +24,6 @@ is_of_second (RunFault.Refused Which.Second fault) = true
 is_of_second (RunFault.Read Which.Second) = true
 is_of_second fault = false
 
--- ---- why the bytes of inputs that were read whole have no answer
-
--- the bytes of the one input are refused with this fault
-abbrev pub IsRefusal : List ℕ → RunFault → Type 0
-IsRefusal bytes (RunFault.Refused which fault) = (which ≡ Which.Only) × IsRefusedWith bytes fault
-IsRefusal bytes fault = ⊥
-
--- the bytes are refused with this fault; or they mean a file, and memory ran out
-abbrev pub IsFaultOfFile : List ℕ → RunFault → Type 0
-IsFaultOfFile bytes RunFault.Memory = MeansFile bytes
-IsFaultOfFile bytes fault = IsRefusal bytes fault
-
--- the same, or they mean a tree that has no table
-abbrev pub IsFaultOfBytes : Strategies → List ℕ → RunFault → Type 0
-IsFaultOfBytes strategies bytes (RunFault.Form FormFault.Memory) = ⊥
-IsFaultOfBytes strategies bytes (RunFault.Form fault) =
-    (g : Game) × SpellsWithin bytes (GameFile.extensive g) × IsWithoutForm strategies g fault
-IsFaultOfBytes strategies bytes fault = IsFaultOfFile bytes fault
-
--- Of two inputs: the first is refused; or it is not, and the second is; or both mean files, and
--- memory ran out.
-abbrev pub IsFaultOfFiles : List ℕ → List ℕ → RunFault → Type 0
-IsFaultOfFiles a b (RunFault.Refused Which.First fault) = IsRefusedWith a fault
-IsFaultOfFiles a b (RunFault.Refused Which.Second fault) = MeansFile a × IsRefusedWith b fault
-IsFaultOfFiles a b RunFault.Memory = MeansFile a × MeansFile b
-IsFaultOfFiles a b fault = ⊥
-
 -- ---- the exit status
 
 -- of a refusal
@@ -76,8 +42,7 @@ status_of (RunFault.Form fault) = 2
 
 -- of an answer: two files mean the same, a file is canonical or no files are duplicates, or not
 abbrev pub answer_status : Bool → ℕ
-answer_status true = 0
-answer_status false = 1
+answer_status good = if good then 0 else 1
 
 -- ---- the line on standard error
 

@@ -2,4 +2,3 @@ pub mod Faults
 pub mod Run
 pub mod Streams
 pub mod Texts
-pub mod Transfers

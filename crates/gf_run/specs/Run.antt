@@ -5,10 +5,8 @@ use Rattle.gf_canon.specs.NamesAside.{IsTextBy}
 use Rattle.gf_canon.specs.declared.kind.FileKind.{FileKind}
 use Rattle.gf_token.specs.declared.names.Names.{Names}
 use Rattle.gf_form.specs.declared.forms.Strategies.{Strategies}
-use Rattle.gf_run.specs.Faults.{IsFaultOfBytes, IsFaultOfFiles, IsRefusal}
-use Rattle.gf_run.specs.Transfers.{IsNotRead, IsReadWhole, IsWriteFault, IsWritten}
-use Rattle.gf_run.specs.Streams.{Stream}
-use Rattle.gf_run.specs.Texts.{IsFormText, kind_line}
+use Rattle.gf_run.specs.Texts.{IsFaultOfBytes, IsFaultOfFiles, IsRefusal, IsFormText, kind_line}
+use Rattle.gf_run.specs.Streams.{IsNotRead, IsReadWhole, IsWriteFault, IsWritten, Stream}
 use Rattle.gf_run.specs.declared.fault.RunFault.{RunFault}
 use Rattle.gf_run.specs.declared.fault.Which.{Which}
 

@@ -1,5 +1,5 @@
 -- What is written about files that are read: what one holds, the text of a table, and whether two are
--- the same.
+-- the same; and why nothing is.
 use Rattle.std.specs.Prelude.{◌≡◌, ◌≢◌, ◌⊎◌, ◌↔◌, ℕ, Bool, true, false, IsTrue, List, ◌++◌, codes, decimal}
 use Rattle.std.specs.List.{flat_map}
 use Rattle.gf_nfg.specs.Table.{Table}
@@ -7,15 +7,19 @@ use Rattle.gf_nfg.specs.TableText.{table_text}
 use Rattle.gf_tree.specs.Game.{Game}
 use Rattle.gf_tree.specs.Renumbering.{Renumbering}
 use Rattle.gf_tree.specs.SameGame.{Carries, SameGame}
+use Rattle.gf_token.specs.declared.form_fault.FormFault.{FormFault}
 use Rattle.gf_token.specs.declared.names.Names.{Names}
 use Rattle.gf_canon.specs.CanonicalText.{SpellsWithin}
 use Rattle.gf_canon.specs.GameFile.{GameFile}
+use Rattle.gf_canon.specs.Judgement.{IsRefusedWith, MeansFile}
 use Rattle.gf_canon.specs.NamesAside.{IsTextBy}
 use Rattle.gf_canon.specs.Pairs.{renumbering_pairs}
 use Rattle.gf_canon.specs.declared.kind.FileKind.{FileKind}
 use Rattle.gf_canon.specs.declared.numbering.pairs.NumberPair.{NumberPair}
-use Rattle.gf_form.specs.Forms.{IsFormOf}
+use Rattle.gf_form.specs.Forms.{IsFormOf, IsWithoutForm}
 use Rattle.gf_form.specs.declared.forms.Strategies.{Strategies}
+use Rattle.gf_run.specs.declared.fault.RunFault.{RunFault}
+use Rattle.gf_run.specs.declared.fault.Which.{Which}
 
 -- ---- the kind of a file
 
@@ -72,12 +76,34 @@ IsLineAndMap (GameFile.extensive g) (GameFile.extensive h) true text = SameGame 
 IsLineAndMap x y same text = IsLine x y same text
 
 -- the bytes mean two files, and this says whether they are the same, and this is its text
-pub record IsAnswer (Same : GameFile → GameFile → Type 0)
-    (IsText : GameFile → GameFile → Bool → List ℕ → Type 0) (same : Bool) (a b text : List ℕ)
-    : Type 0 where
-  pub first : GameFile
-  pub second : GameFile
-  pub first_spelled : SpellsWithin a first
-  pub second_spelled : SpellsWithin b second
-  pub same_exactly : IsTrue same ↔ Same first second
-  pub is_text : IsText first second same text
+abbrev pub IsAnswer : (Same : GameFile → GameFile → Type 0)
+    → (IsText : GameFile → GameFile → Bool → List ℕ → Type 0) → Bool → (a b text : List ℕ) → Type 0
+IsAnswer Same IsText same a b text = (x y : GameFile) × SpellsWithin a x × SpellsWithin b y
+    × (IsTrue same ↔ Same x y) × IsText x y same text
+
+-- ---- why the bytes of inputs that were read whole have no answer
+
+-- the bytes of the one input are refused with this fault
+abbrev pub IsRefusal : List ℕ → RunFault → Type 0
+IsRefusal bytes (RunFault.Refused which fault) = (which ≡ Which.Only) × IsRefusedWith bytes fault
+IsRefusal bytes fault = ⊥
+
+-- the bytes are refused with this fault; or they mean a file, and memory ran out
+abbrev pub IsFaultOfFile : List ℕ → RunFault → Type 0
+IsFaultOfFile bytes RunFault.Memory = MeansFile bytes
+IsFaultOfFile bytes fault = IsRefusal bytes fault
+
+-- the same, or they mean a tree that has no table
+abbrev pub IsFaultOfBytes : Strategies → List ℕ → RunFault → Type 0
+IsFaultOfBytes strategies bytes (RunFault.Form FormFault.Memory) = ⊥
+IsFaultOfBytes strategies bytes (RunFault.Form fault) =
+    (g : Game) × SpellsWithin bytes (GameFile.extensive g) × IsWithoutForm strategies g fault
+IsFaultOfBytes strategies bytes fault = IsFaultOfFile bytes fault
+
+-- Of two inputs: the first is refused; or it is not, and the second is; or both mean files, and
+-- memory ran out.
+abbrev pub IsFaultOfFiles : List ℕ → List ℕ → RunFault → Type 0
+IsFaultOfFiles a b (RunFault.Refused Which.First fault) = IsRefusedWith a fault
+IsFaultOfFiles a b (RunFault.Refused Which.Second fault) = MeansFile a × IsRefusedWith b fault
+IsFaultOfFiles a b RunFault.Memory = MeansFile a × MeansFile b
+IsFaultOfFiles a b fault = ⊥

@@ -1,6 +1,6 @@
 -- What is kept of files that were read, to tell which are the same game.
-use Rattle.std.specs.Prelude.{◌≡◌, ℕ, List, map}
-use Rattle.gf_jobs.specs.Duplicates.{HashedFile, groups_of, hashes_of, names_of}
+use Rattle.std.specs.Prelude.{◌≡◌, ℕ, List}
+use Rattle.gf_jobs.specs.Duplicates.{HashedFile, hashes_of, named_groups}
 
 -- their hashes, and for each hash the names of its files
 pub record KeptNames : Type 0 where
@@ -10,4 +10,4 @@ pub record KeptNames : Type 0 where
 -- this is kept of the files
 pub record IsKeptOf (files : List HashedFile) (kept : KeptNames) : Type 0 where
   pub hashes : kept.hashes ≡ hashes_of files
-  pub names : kept.names ≡ map names_of (groups_of files)
+  pub names : kept.names ≡ named_groups files

@@ -1,10 +1,10 @@
 //! The names of files, in groups with the same hash.
 
 ghost use Rattle.std.specs.Prelude.{◌≡◌, List, [], ◌∷◌, ◌++◌, map, MatchResult, OnOk};
-ghost use Rattle.std.specs.Prelude.{if◌then◌else◌};
-ghost use Rattle.gf_jobs.specs.Duplicates.{HashedFile, are_apart, duplicates};
-ghost use Rattle.gf_jobs.specs.Duplicates.{groups_text, name_lines};
-ghost use Rattle.gf_jobs.specs.Lines.{end_text};
+ghost use Rattle.std.specs.Prelude.{if◌then◌else◌, not};
+ghost use Rattle.std.specs.List.{filter, list_any};
+ghost use Rattle.gf_jobs.specs.Duplicates.{HashedFile, groups_text, has_two, name_lines, named_groups};
+ghost use Rattle.gf_jobs.specs.Lines.{end_byte};
 ghost use Rattle.gf_jobs.specs.inner.KeptNames.{IsKeptOf, KeptNames};
 
 use crate::collections::name::push_name_line;
@@ -41,7 +41,7 @@ fn push_group(
     end: LineEnd,
     first: bool,
 ) -> Result<(), AllocError>
-    ensures { OnOk result (text.new.items ≡ text.old.items ++ (if first then [] else end_text end)
+    ensures { OnOk result (text.new.items ≡ text.old.items ++ (if first then [] else end_byte end ∷ [])
         ++ name_lines end (map (λ name. name.now) names.now)) }
 {
     if !first {
@@ -81,8 +81,8 @@ impl<'a> Groups<'a> {
     /// for each, with an empty line between two groups.
     pub fn text(&self, alloc: Global, end: LineEnd) -> Result<Answer<bool>, RunFault>
         ensures { (files : List HashedFile) → IsKeptOf files self.now → MatchResult result
-            (λ answer. (answer.value ≡ are_apart files)
-            × (answer.text.rest ≡ groups_text end (duplicates files)))
+            (λ answer. (answer.value ≡ not (list_any has_two (named_groups files)))
+            × (answer.text.rest ≡ groups_text end (filter has_two (named_groups files))))
             (λ fault. fault ≡ RunFault.Memory) }
     {
         let mut text = Vec::new(alloc);

@@ -2,7 +2,7 @@
 
 ghost use Rattle.std.specs.Prelude.{MatchResult};
 ghost use Rattle.gf_jobs.specs.Lines.{IsHashOf, IsLineOf, ReadsHash, RunsLine};
-ghost use Rattle.gf_run.specs.Faults.{IsFaultOfFile, IsRefusal};
+ghost use Rattle.gf_run.specs.Texts.{IsFaultOfFile, IsRefusal};
 
 use crate::collections::name::push_name_line;
 use crate::jobs::ending::after_name;

@@ -1,7 +1,7 @@
 //! The files of a collection: those that words or a list of names lead to.
 
 ghost use Rattle.std.specs.Prelude.{Err, IfErr, IfOk, List, Ok, map, ℕ};
-ghost use Rattle.gf_jobs.specs.LedTo.{AreFilesOf};
+ghost use Rattle.gf_jobs.specs.LedTo.{AreLedTo, Seen};
 ghost use Rattle.gf_jobs.specs.Performs.{AreNames};
 
 use crate::collections::file::CollectionFile;
@@ -56,8 +56,8 @@ fn files_led_to<I: Inputs, P: AsSlice<u8>>(
     paths: &[P],
     repeats: Repeats,
 ) -> Result<FoundFiles, AllocError>
-    ensures { IfOk result (λ found. AreFilesOf I.opener inputs.now repeats (map P.items paths.now)
-        found.files.items found.without_games.items) }
+    ensures { IfOk result (λ found. (seen : Seen) × AreLedTo I.opener inputs.now repeats
+        (map P.items paths.now) seen found.files.items found.without_games.items) }
 {
     let mut files = Vec::new(alloc);
     let mut without_games = Vec::new(alloc);
@@ -96,7 +96,7 @@ pub fn files_at<I: Inputs>(
 ) -> Result<FoundFiles, Failed>
     ensures files { IfOk result (λ found. (names : List (List ℕ))
         × AreNames I.opener I.Opened.reader paths.now (Ok names) inputs.old inputs.new
-        × AreFilesOf I.opener inputs.new repeats names found.files.items
+        × (seen : Seen) × AreLedTo I.opener inputs.new repeats names seen found.files.items
         found.without_games.items) }
     ensures fault { IfErr result (λ failed.
         AreNames I.opener I.Opened.reader paths.now (Err failed.fault) inputs.old inputs.new) }

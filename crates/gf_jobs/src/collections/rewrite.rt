@@ -1,8 +1,9 @@
 //! How the canonical text of a file is put in its place.
 
-ghost use Rattle.std.specs.Prelude.{true};
+ghost use Rattle.std.specs.Prelude.{◌≡◌, ◌≢◌, true};
+ghost use Rattle.std.specs.IoError.{error_kind};
 ghost use Rattle.std.specs.Result.{result_map_both};
-ghost use Rattle.gf_jobs.specs.Performs.{IsReplacedBy, IsRewritten, IsUnreplaced, Rewrites};
+ghost use Rattle.gf_jobs.specs.Performs.{IsReplacedBy, IsRewritten, Rewrites};
 
 use crate::collections::file::CollectionFile;
 use crate::explain::{Cause, Failed};
@@ -18,7 +19,8 @@ use std::io::ErrorKind;
 
 /// Why a text could not be put in the place of a file.
 fn unreplaced(error: io::Error) -> Failed
-    ensures { IsUnreplaced error result.fault }
+    ensures memory { error_kind error ≡ ErrorKind.OutOfMemory → result.fault ≡ RunFault.Memory }
+    ensures other { error_kind error ≢ ErrorKind.OutOfMemory → result.fault ≡ RunFault.Write }
 {
     match error.kind() {
         ErrorKind::OutOfMemory => Failed::from(RunFault::Memory),

@@ -1,7 +1,7 @@
 //! The names in a list of files, one in each line.
 
 ghost use Rattle.std.specs.Prelude.{◌≡◌, ◌++◌, IfSome, OnOk, map};
-ghost use Rattle.gf_jobs.specs.Listed.{end_byte, name_in, names_in};
+ghost use Rattle.gf_jobs.specs.Lines.{end_byte, name_in, names_in};
 
 use gf_words::LineEnd;
 use std::alloc::{AllocError, Global};

@@ -4,7 +4,7 @@ ghost use Rattle.std.specs.Prelude.{◌≡◌, ◌++◌, ◌<◌, ◌≤◌, Lis
 ghost use Rattle.std.specs.Io.{WritesAtMost};
 ghost use Rattle.std.specs.Io.KnownBytes.{WriteAppends};
 ghost use Rattle.gf_run.specs.Streams.{CountsPush, HasRisen, Moves, Stream};
-ghost use Rattle.gf_run.specs.Transfers.{IsBegun, IsOffer, IsWriteFault, IsWritten, Stops};
+ghost use Rattle.gf_run.specs.Streams.{IsBegun, IsOffer, IsWriteFault, IsWritten, Stops};
 
 use crate::fault::WriteFault;
 use crate::streams::turns::{PATIENCE, is_interruption};

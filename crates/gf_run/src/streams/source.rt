@@ -4,7 +4,7 @@ ghost use Rattle.std.specs.Prelude.{◌≡◌, ◌+◌, ◌<◌, ◌≤◌, ◌+
 ghost use Rattle.std.specs.Io.{ReadsAtMost};
 ghost use Rattle.std.specs.Io.KnownBytes.{ReadConsumes};
 ghost use Rattle.gf_run.specs.Streams.{CountsPull, GivesUp, HasRisen, Moves, Stream};
-ghost use Rattle.gf_run.specs.Transfers.{HasLength, IsNotRead, IsRead, IsReadWhole, limit};
+ghost use Rattle.gf_run.specs.Streams.{HasLength, IsNotRead, IsRead, IsReadWhole, limit};
 
 use crate::fault::{RunFault, Which};
 use crate::streams::turns::{PATIENCE, is_interruption};

@@ -1,7 +1,7 @@
 //! The answer about the bytes of inputs, and how its text is written.
 
 ghost use Rattle.std.specs.Prelude.{◌≡◌, Err, MatchResult, OnErr, OnOk};
-ghost use Rattle.gf_run.specs.Transfers.{IsWriteFault, IsWritten};
+ghost use Rattle.gf_run.specs.Streams.{IsWriteFault, IsWritten};
 ghost use Rattle.gf_run.specs.Run.{Writes};
 
 use crate::fault::{RunFault, WriteFault};

@@ -3,8 +3,7 @@
 ghost use Rattle.std.specs.Prelude.{◌≡◌, MatchResult};
 ghost use Rattle.gf_canon.specs.GameFile.{SameFile};
 ghost use Rattle.gf_canon.specs.SameBy.{SameBy};
-ghost use Rattle.gf_run.specs.Faults.{IsFaultOfFiles};
-ghost use Rattle.gf_run.specs.Texts.{IsAnswer, IsLine, IsLineAndMap, answer_line};
+ghost use Rattle.gf_run.specs.Texts.{IsFaultOfFiles, IsAnswer, IsLine, IsLineAndMap, answer_line};
 
 use crate::fault::RunFault;
 use crate::texts::answer::{Answer, answer_with};

@@ -4,8 +4,7 @@
 ghost use Rattle.std.specs.Prelude.{◌≡◌, ◌↔◌, MatchResult, IsTrue};
 ghost use Rattle.gf_canon.specs.KindOfFile.{MeansFileOf};
 ghost use Rattle.gf_canon.specs.NamesAside.{IsTextBy};
-ghost use Rattle.gf_run.specs.Texts.{AreCanonical, kind_line};
-ghost use Rattle.gf_run.specs.Faults.{IsRefusal};
+ghost use Rattle.gf_run.specs.Texts.{AreCanonical, kind_line, IsRefusal};
 
 use crate::fault::{RunFault, refused};
 use crate::texts::answer::Answer;

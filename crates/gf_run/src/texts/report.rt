@@ -2,7 +2,7 @@
 
 ghost use Rattle.std.specs.Prelude.{◌≡◌, ◌≤◌, length, OnOk, OnErr};
 ghost use Rattle.gf_run.specs.Faults.{fault_line, fault_prefix, short_line};
-ghost use Rattle.gf_run.specs.Transfers.{IsWriteFault, IsWritten};
+ghost use Rattle.gf_run.specs.Streams.{IsWriteFault, IsWritten};
 
 use crate::fault::{RunFault, Which, WriteFault};
 use crate::streams::sink::{Sink, push_all};

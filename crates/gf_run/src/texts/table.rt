@@ -4,9 +4,9 @@ ghost use Rattle.std.specs.Prelude.{◌≡◌, ◌≤◌, IfErr, IfOk, MatchResu
 ghost use Rattle.gf_nfg.specs.Table.{Table as table};
 ghost use Rattle.gf_nfg.specs.TableText.{table_text};
 ghost use Rattle.gf_form.specs.Forms.{HasFewPlayers, IsFormOf, IsWithoutForm};
-ghost use Rattle.gf_run.specs.Faults.{IsFaultOfBytes, form_fault};
-ghost use Rattle.gf_run.specs.Texts.{IsFormText};
-ghost use Rattle.gf_run.specs.Transfers.{limit};
+ghost use Rattle.gf_run.specs.Faults.{form_fault};
+ghost use Rattle.gf_run.specs.Texts.{IsFaultOfBytes, IsFormText};
+ghost use Rattle.gf_run.specs.Streams.{limit};
 
 use crate::fault::{RunFault, refused};
 use crate::texts::answer::Answer;

@@ -1,9 +1,9 @@
 use Rattle.std.proofs.Common.{append-nil, Option, Some, None, inl, ap, arith}
 use Rattle.std.proofs.Common.{sym, ◌≡◌, ◌∙◌, ℕ, List, [], ◌++◌, take, zero, suc, append_assoc}
 use Rattle.std.specs.Prelude.{◌⊎◌}
-use Rattle.gf_run.specs.Transfers.{HasLength, IsReadWhole}
-use Rattle.gf_jobs.specs.Opening.{bytes_kept, kept_reader}
+use Rattle.gf_run.specs.Streams.{HasLength, IsReadWhole}
 use Rattle.gf_run.specs.Streams.{Interruptions, Moves, Stream, Transfers, more, none}
+use Rattle.gf_jobs.specs.Opening.{bytes_kept, kept_reader}
 use Rattle.gf_jobs.specs.declared.opening.kept.Kept.{Kept}
 use Rattle.gf_jobs.proofs.laws.kept_is_read.Goals as goal
 

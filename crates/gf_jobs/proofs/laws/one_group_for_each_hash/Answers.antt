@@ -20,22 +20,21 @@ in_group : (files : List HashedFile) (hash : List ℕ) (a : HashedFile) → Cont
 in_group files hash a m e = grind (arith, contains, has, in_filter, same_hash_equality)
 
 alike : (files : List HashedFile) (a b : HashedFile) → AreInOneGroup files a b → a.hash ≡ b.hash
-alike files a b one =
-    let from = mapped_from (having files) (hashes_of files) one.group
-    (has (groups_of files) one.group one.is_group) in
-    sym (hash_in files from.0 a (rw from.2 one.first)) ∙ hash_in files from.0 b (rw from.2 one.second)
+alike files a b (group, is_group, first, second) =
+    let from = mapped_from (having files) (hashes_of files) group
+    (has (groups_of files) group is_group) in
+    sym (hash_in files from.0 a (rw from.2 first)) ∙ hash_in files from.0 b (rw from.2 second)
 
 together : (files : List HashedFile) (a b : HashedFile) → Contains files a → Contains files b
     → a.hash ≡ b.hash → AreInOneGroup files a b
-together files a b m n e = record {
-  group = having files a.hash;
-  is_group = contains (groups_of files) (having files a.hash)
-      (has_map (having files) (hashes_of files) a.hash
+together files a b m n e = (
+  having files a.hash,
+  contains (groups_of files) (having files a.hash) (has_map (having files) (hashes_of files) a.hash
       (is_used bytes_eq same_hash_equality (map (λ file. file.hash) files) a.hash
-      (has_map (λ file. file.hash) files a (has files a m))));
-  first = in_group files a.hash a m refl;
-  second = in_group files a.hash b n e;
-}
+      (has_map (λ file. file.hash) files a (has files a m)))),
+  in_group files a.hash a m refl,
+  in_group files a.hash b n e,
+)
 
 pub returns : goal.returns
 returns c = λ files a b m n. (alike files a b, together files a b m n)

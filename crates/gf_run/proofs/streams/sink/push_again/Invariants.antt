@@ -1,4 +1,4 @@
-use Rattle.gf_run.specs.Transfers.{IsOffer}
+use Rattle.gf_run.specs.Streams.{IsOffer}
 use Rattle.gf_run.proofs.Asked.{IsAskedAgain}
 use Rattle.gf_run.proofs.streams.sink.push_again.Given as goal
 

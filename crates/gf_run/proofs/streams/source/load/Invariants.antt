@@ -1,5 +1,5 @@
 use Rattle.std.proofs.Common.{◌≤◌, ◌-◌, vec_len}
-use Rattle.gf_run.specs.Transfers.{IsRead, limit}
+use Rattle.gf_run.specs.Streams.{IsRead, limit}
 use Rattle.gf_run.proofs.streams.source.load.Given as goal
 
 -- the bytes so far are those that came

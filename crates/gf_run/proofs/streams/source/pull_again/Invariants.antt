@@ -1,5 +1,5 @@
 use Rattle.std.proofs.Common.{length}
-use Rattle.gf_run.specs.Transfers.{HasLength}
+use Rattle.gf_run.specs.Streams.{HasLength}
 use Rattle.gf_run.proofs.Asked.{IsAskedAgain}
 use Rattle.gf_run.proofs.streams.source.pull_again.Given as goal
 

@@ -4,8 +4,7 @@ use Rattle.std.proofs.KnownBytes.{Consumes-trans}
 use Rattle.std.proofs.lemmas.List.{take-append-le}
 use Rattle.std.specs.Io.KnownBytes.{Consumes}
 use Rattle.gf_run.proofs.Errors.{only_error}
-use Rattle.gf_run.specs.Streams.{Moves, Stream, more}
-use Rattle.gf_run.specs.Transfers.{HasLength, HasRoom, IsRead}
+use Rattle.gf_run.specs.Streams.{Moves, Stream, more, HasLength, HasRoom, IsRead}
 use Rattle.gf_run.proofs.streams.source.pull_next.Goals as goal
 
 -- one more turn gave the first n bytes of a buffer

@@ -1,5 +1,5 @@
 use Rattle.std.proofs.Common.{length}
-use Rattle.gf_run.specs.Transfers.{IsBegun}
+use Rattle.gf_run.specs.Streams.{IsBegun}
 use Rattle.gf_run.proofs.texts.answer.push_text.Given as goal
 
 -- the text was written up to what is left of it

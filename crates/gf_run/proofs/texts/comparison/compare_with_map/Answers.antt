@@ -22,12 +22,12 @@ returns c =
     let same = c.in_ok-same.same in
     let lines = c.pairs_of_files.new.to.text.items in
     let text : c.extend_from_slice.new.self.items ≡ answer_line same ++ lines = search rules in
-    rw (c.answer_with.ensures.value, c.answer_with.ensures.text) (record {
-      first = says.0;
-      second = says.1;
-      first_spelled = says.2;
-      second_spelled = says.3;
-      same_exactly = says.4;
-      is_text = line_and_map says.0 says.1 same lines _ says.4 (λ yes. says.5 yes none)
-          (λ no. ap (λ (told : PairLines). told.text.items) (c.in_ok-same.ensures.untold no) ∙ none) text;
-    })
+    rw (c.answer_with.ensures.value, c.answer_with.ensures.text) (
+      says.0,
+      says.1,
+      says.2,
+      says.3,
+      says.4,
+      line_and_map says.0 says.1 same lines _ says.4 (λ yes. says.5 yes none)
+          (λ no. ap (λ (told : PairLines). told.text.items) (c.in_ok-same.ensures.untold no) ∙ none) text,
+    )

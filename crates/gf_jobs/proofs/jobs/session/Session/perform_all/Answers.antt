@@ -7,9 +7,9 @@ pub returns-in-Ok-clause-performed : goal.returns-in-Ok-clause-performed
 returns-in-Ok-clause-performed g c =
     let said = told g.E.Sink.writer _ _ _ c.push_all.result c.push_all.ensures.all
     c.push_all.ensures.part in
-    let (names, are_names, are_files) = c.in-Ok.ensures.files in
+    let (names, are_names, seen, are_files) = c.in-Ok.ensures.files in
     found names c.in-Ok.found.files.items c.in-Ok.found.without_games.items _ are_names refl
-    (rw c.repeats.ensures at are_files) (rw c.as_slice.ensures.value at said)
+    seen (rw c.repeats.ensures at are_files) (rw c.as_slice.ensures.value at said)
     (rw c.as_slice-in-Ok.ensures.value at c.run_task.ensures.done)
 
 pub returns-in-Err-clause-performed : goal.returns-in-Err-clause-performed
