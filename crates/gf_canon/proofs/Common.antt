@@ -53,7 +53,7 @@ pub use Rattle.gf_tree.proofs.Offered.{only_outcomes, sets_in_order, agreed_game
 pub use Rattle.gf_tree.proofs.Offered.{flatten_map, mapped_from, same_itself, entry_used, has_place}
 pub use Rattle.gf_tree.proofs.Offered.{map_entry, map_twice, of_filter, only_sets, same_back, found}
 pub use Rattle.gf_tree.proofs.Offered.{contains, map_same, was_used, has_map, in_keys, same_on, has}
-pub use Rattle.gf_tree.proofs.Offered.{each, held, equal_nodes}
+pub use Rattle.gf_tree.proofs.Offered.{each, held}
 pub use Rattle.gf_tree.specs.CanonicalGame.{canonical_game}
 pub use Rattle.gf_tree.specs.Consistent.{AreConsistent, IsConsistent, IsDescribed, IsFirstUse}
 pub use Rattle.gf_tree.specs.Consistent.{Describes}

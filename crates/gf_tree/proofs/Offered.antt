@@ -7,7 +7,7 @@ pub use Rattle.gf_tree.proofs.lemmas.games.Canonical.{canonical_twice, set_numbe
 pub use Rattle.gf_tree.proofs.lemmas.games.Carried.{entry_used, in_keys}
 pub use Rattle.gf_tree.proofs.lemmas.games.Consistent.{outcomes_in_order, sets_in_order, map_entry}
 pub use Rattle.gf_tree.proofs.lemmas.games.Consistent.{flatten_map, is_game}
-pub use Rattle.gf_tree.proofs.lemmas.games.EqualNodes.{equal_headings, equal_nodes}
+pub use Rattle.gf_tree.proofs.lemmas.games.EqualHeadings.{equal_headings}
 pub use Rattle.gf_tree.proofs.lemmas.games.FirstUseNumbers.{number_at_most, same_tests, number_at}
 pub use Rattle.gf_tree.proofs.lemmas.games.FirstUseNumbers.{AreApart}
 pub use Rattle.gf_tree.proofs.lemmas.games.FirstUses.{first_uses_distinct, AreDistinct, in_filter}
