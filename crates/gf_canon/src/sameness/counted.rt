@@ -106,8 +106,7 @@ fn same_outcome(a: Option<OutcomeUse<'_, '_>>, b: Option<OutcomeUse<'_, '_>>, na
     }
 }
 
-/// Whether two nodes are the same. Parts are compared one by one, since `==` would store both nodes
-/// in memory.
+/// Whether two nodes are the same, part by part.
 #[inline(always)]
 #[tactic(auto, using(crate::proofs::lemmas::sameness::NodesNamed::by_parts))]
 fn same_parts(a: &FileNode<'_, '_>, b: &FileNode<'_, '_>, names: Names) -> bool

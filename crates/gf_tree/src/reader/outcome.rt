@@ -55,6 +55,7 @@ impl<'a> Reader<'a> {
 
     /// Reads a payoff of a new outcome, and one comma if there is one.
     #[tactic(auto, using(gf_fraction::proofs::Offered::number_answers))]
+    #[inline(always)]
     fn payoff(&mut self) -> Result<(), Fault>
         ensures machine { (b : Begun) (number : ℕ) (name : List ℕ) (left : ℕ) → Goes
             (answer (NewPayoff false b number (outcome_with name self.old.outcomes.pending)
