@@ -41,7 +41,7 @@ pub enum Task {
 
 impl Task {
     /// Whether a file that a folder holds under two names is read for both.
-    pub fn repeats(self) -> Repeats
+    pub(crate) fn repeats(self) -> Repeats
         ensures { result ≡ repeats_of self }
     {
         match self {
