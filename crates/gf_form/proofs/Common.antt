@@ -60,7 +60,7 @@ pub use Rattle.gf_form.specs.inner.rows.TermLists.{IsNoted, IsSumAt, MayCome}
 pub use Rattle.gf_form.specs.inner.rows.GameDigits.{AreDigitsOf, AreMadeOf, HasDigits, HaveSteps}
 pub use Rattle.gf_form.specs.inner.rows.GameDigits.{digit_actions, actions_at}
 pub use Rattle.gf_form.specs.inner.rows.KeptNodes.{paid_reached, is_paid}
-pub use Rattle.gf_form.specs.inner.rows.ListedNodes.{AreTermsOf, IsTermMore, HasShares, IsShareAt}
+pub use Rattle.gf_form.specs.inner.rows.ListedNodes.{AreTermsOf, TellNodes, HasShares, IsShareAt}
 pub use Rattle.gf_form.specs.inner.rows.ListedNodes.{Tells}
 pub use Rattle.gf_form.specs.inner.rows.Pairs.{HasPairRow, IsPaidPair}
 pub use Rattle.gf_form.specs.inner.rows.ProfileRows.{AreRowsAt}
@@ -156,7 +156,7 @@ pub use Rattle.std.proofs.Math.Nat.{eq-one_of_dvd-one, mul-le-mul_left, mod-mod_
 pub use Rattle.std.proofs.Math.Seq.{take-suc, take-length, take-append_seam, drop-cons, drop-nil}
 pub use Rattle.std.proofs.Math.Seq.{get_or-append_seam, drop-append_seam, take-add}
 pub use Rattle.std.proofs.lemmas.Bool.{eqb-false, and_from, and_parts, eqb-true, false≢true, eq-eqb}
-pub use Rattle.std.proofs.lemmas.Bool.{false_from_ne_true, or_left, or_right, cases_lt, lt-ltb}
+pub use Rattle.std.proofs.lemmas.Bool.{false_from_ne_true, or_left, or_right, cases_lt}
 pub use Rattle.std.proofs.lemmas.Bool.{ne_eqb, cases_Bool, ltb-false, cases_eq, ltb-true}
 pub use Rattle.std.proofs.lemmas.Fmt.{decimal_injective, decimal_by_steps, decimal_digit}
 pub use Rattle.std.proofs.lemmas.Grind.{flat_map-append, get_or-set_at, common_steps}
@@ -189,7 +189,7 @@ pub use Rattle.std.specs.Cmp.Lexicographic.{pointwise}
 pub use Rattle.std.specs.Int.{◌∣◌, w128, IsGcd}
 pub use Rattle.std.specs.List.{AllByRecursion, AllZip, Contains, list_all, list_any, join_with_byte}
 pub use Rattle.std.specs.List.{flat_map, filter_map, dedup_from, sum_by, dedup}
-pub use Rattle.std.specs.List.Sorted.{IsNonDecreasingBy, IsNonDecreasing, IsPermutation}
+pub use Rattle.std.specs.List.Sorted.{IsNonDecreasingBy, IsPermutation}
 pub use Rattle.std.specs.Option.{option_map_or}
 pub use Rattle.std.specs.Prelude.{◌==◌, filter, ◌↔◌, ◌||◌, codes, nat_lt, not, zip, find, IfSome}
 pub use Rattle.std.specs.Prelude.{option_and_then, unwrap_or, if◌then◌else◌, unsigned_abs, decimal}

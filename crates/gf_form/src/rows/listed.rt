@@ -9,7 +9,7 @@ ghost use Rattle.gf_tree.specs.Game.{Game};
 ghost use Rattle.gf_form.specs.inner.rows.TermLists.{AreAlike, AreInOrder, EndsBelow, IsShaped};
 ghost use Rattle.gf_form.specs.inner.rows.TermLists.{all_terms};
 ghost use Rattle.gf_form.specs.inner.rows.KeptNodes.{paid_reached};
-ghost use Rattle.gf_form.specs.inner.rows.ListedNodes.{HasShares, IsShareAt, IsTermMore};
+ghost use Rattle.gf_form.specs.inner.rows.ListedNodes.{TellNodes, HasShares, IsShareAt};
 ghost use Rattle.gf_form.specs.inner.rows.ItemRows.{HasRow};
 ghost use Rattle.gf_form.specs.inner.values.PaidRows.{rows_of};
 ghost use Rattle.gf_form.specs.inner.rows.Paying.{AreFitting, AreListed};
@@ -109,10 +109,12 @@ fn push_nodes(
     payoffs: &Payoffs<'_>,
     den: u128,
 ) -> Result<(), AllocError>
-    requires { IsShaped terms.old }
-    ensures term { OnOk result
-        (IsTermMore (rows_of payoffs.now) demands nodes.now terms.old terms.new) }
-    ensures shaped { OnOk result (IsShaped terms.new) }
+    requires order { AreInOrder terms.old }
+    requires ends { EndsBelow terms.old.demands.items demands }
+    requires alike { AllByRecursion (λ (r : Path). r.demands ≡ demands) nodes.now }
+    ensures told { OnOk result ((rs : List Path) → TellNodes (rows_of payoffs.now) rs terms.old
+        → TellNodes (rows_of payoffs.now) (rs ++ nodes.now) terms.new) }
+    ensures ends { OnOk result (EndsBelow terms.new.demands.items demands) }
     ensures players { terms.new.players ≡ terms.old.players }
 {
     let over = push_shares(&mut terms.numbers, nodes, payoffs, terms.players, den)?;

@@ -98,11 +98,7 @@ same_first to after (suc n) each =
 pub cut_at : (old row all : List ℤ) (n : ℕ) → all ≡ old ++ row → n ≡ length old
     → (take n all ≡ old) × (take (length all - n) (drop n all) ≡ row)
 cut_at old row all n is at =
-    let past : drop n all ≡ row = rw (is, at) (drop-append_seam old row) in
-    let size : length all ≡ n + length row = rw (is, at) (length-append old row) in (
-      rw (is, at) (take-append_seam old row),
-      rw past (take_all _ row (omega (arith, size))),
-    )
+    grind (arith, drop-append_seam, length-append, take-append_seam, take_all)
 
 -- the terms do not depend on the room for their numbers
 pub same_terms : (t : Terms) (numbers : Vec ℤ Global) → numbers.items ≡ t.numbers.items

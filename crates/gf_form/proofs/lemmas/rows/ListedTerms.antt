@@ -3,14 +3,14 @@
 use Rattle.gf_form.proofs.Common
 use Common.{All-from_recursion, recursion_from_All, IsNonDecreasingBy, mul-le-mul_right, AreExactAt}
 use Common.{unsigned_abs-mul, All-permutation, AllByRecursion, get_or_default, IsPermutation, Ratio}
-use Common.{if◌then◌else◌, mul_pos_right, sum_of_shares, sum_of_terms, unsigned_abs, AreOrdered, []}
-use Common.{AreTermsOf, ComeAsWell, IsTermMore, all_images, map-append, met_bounds, node_terms, pos}
-use Common.{EndsBelow, HasShares, IsExactAt, all_parts, all_terms, dvd_trans, mul_above, node_term}
-use Common.{number_at, IsShaped, all_both, take-add, *ℤ-zero, ArePaid, IsSumOf, one-dvd, term_of, ℕ}
-use Common.{zero-*ℤ, add-*ℤ, get_or, length, pay_at, sum_by, Tells, Terms, arith, false, meets, suc}
+use Common.{if◌then◌else◌, mul_pos_right, sum_of_shares, sum_of_terms, unsigned_abs, []}
+use Common.{AreTermsOf, ComeAsWell, all_images, map-append, met_bounds, node_terms, pos}
+use Common.{HasShares, IsExactAt, all_parts, dvd_trans, mul_above, node_term}
+use Common.{number_at, all_both, take-add, *ℤ-zero, IsSumOf, one-dvd, term_of, ℕ}
+use Common.{zero-*ℤ, add-*ℤ, get_or, length, pay_at, sum_by, Tells, arith, false, meets, suc}
 use Common.{subst, Bool, Game, List, Path, Term, drop, ints, refl, take, true, zero, ◌*ℤ◌, ◌++◌, ap}
 use Common.{◌+ℤ◌, ◌==◌, sym, ◌*◌, ◌+◌, ◌-◌, ◌/◌, ◌<◌, ◌∙◌, ◌∣◌, ◌∷◌, ◌≡◌, ◌≤◌, ℤ, rules}
-use Rattle.gf_form.proofs.lemmas.rows.FlatRows.{ordered_more, below_more, all_in}
+use Rattle.gf_form.proofs.lemmas.rows.FlatRows.{all_in}
 use Rattle.gf_form.proofs.lemmas.rows.MergedTerms.{size_append, sum_append, both_come, come_both}
 use Rattle.gf_form.proofs.lemmas.rows.MergedTerms.{come_none, same_come, scaled}
 use Rattle.std.specs.List.Retain.{DedupsFrom, IsDeduped}
@@ -96,21 +96,10 @@ no_node = record { weight = 0; bound = 0; den = 0; demands = 0; outcome = 0 }
 abbrev pub node_at : List Path → ℕ → Path
 node_at nodes place = get_or nodes place no_node
 
--- the terms of this many of the first nodes, and the next node demands no less
-pub record Listing (rows : List (List Ratio)) (players : ℕ) (rs : List Path) (at : ℕ)
-    (terms : Terms) : Type 0 where
-  pub told : (g : Game) → ArePaid g rows → AreTermsOf g players (take at rs) (all_terms terms)
-  pub ordered : AreOrdered terms
-  pub next : (d : Path) → at < length rs
-      → EndsBelow terms.demands.items (get_or rs at d).demands
-  pub shaped : IsShaped terms
-  pub players_are : terms.players ≡ players
-
+-- the next nodes, which demand the same
 module _ (rs : List Path) (sorted : IsNonDecreasingBy (λ (r : Path). r.demands) rs) (at end : ℕ)
-    (less : at < length rs) (onward : at < end) (within : end ≤ length rs)
-    (same : (d : Path) (k : ℕ) → at ≤ k → k < end
-    → (get_or rs k d).demands ≡ (get_or rs at d).demands) (demands : ℕ)
-    (is : demands ≡ (node_at rs at).demands) where
+    (onward : at < end) (within : end ≤ length rs) (same : (d : Path) (k : ℕ) → at ≤ k → k < end
+    → (get_or rs k d).demands ≡ (get_or rs at d).demands) where
   abbrev group : List Path
   group = take (end - at) (drop at rs)
 
@@ -119,35 +108,14 @@ module _ (rs : List Path) (sorted : IsNonDecreasingBy (λ (r : Path). r.demands)
       let whole : end ≡ at + (end - at) = omega (arith, onward) in
       ap (λ (n : ℕ). take n rs) whole ∙ take-add at (end - at) rs
 
-  pub all_alike : AllByRecursion (λ (r : Path). r.demands ≡ demands) group
+  pub all_alike : AllByRecursion (λ (r : Path). r.demands ≡ (node_at rs at).demands) group
   all_alike =
-      all_in (λ (r : Path). r.demands ≡ demands) no_node rs (end - at) at
+      all_in (λ (r : Path). r.demands ≡ (node_at rs at).demands) no_node rs (end - at) at
       (omega (arith, onward, within))
-      (λ k from to. same no_node k from (omega (arith, to, onward)) ∙ sym is)
+      (λ k from to. same no_node k from (omega (arith, to, onward)))
 
-  pub rises : (d : Path) → end < length rs → demands ≤ (get_or rs end d).demands
+  pub rises : (d : Path) → end < length rs → (node_at rs at).demands ≤ (get_or rs end d).demands
   rises d there = grind (arith, get_or_default)
-
-  pub nodes_listed : (rows : List (List Ratio)) (players : ℕ) (old new : Terms)
-      → Listing rows players rs at old → IsTermMore rows demands group old new
-      → IsShaped new → new.players ≡ old.players → Listing rows players rs end new
-  nodes_listed rows players old new before more shaped as_many =
-      let e = more.term in record {
-        told = λ g are. subst (λ (ns : List Path). AreTermsOf g players ns (all_terms new))
-            (sym joined)
-            (subst (AreTermsOf g players (take at rs ++ group)) (sym more.is)
-            (nodes_more g players (take at rs) group (all_terms old) e
-            (rw more.demands_are all_alike)
-            (λ above k there. more.says k (omega (arith, there, before.players_are)) above g are)
-            (before.told g are)));
-        ordered = ordered_more old new e more.is before.ordered
-            (λ d some. let le = before.next no_node less d some in
-            omega (arith, le, is, more.demands_are));
-        next = λ d there. below_more old new e more.is (get_or rs end d).demands
-            (omega (arith, rises d there, more.demands_are));
-        shaped = shaped;
-        players_are = as_many ∙ before.players_are;
-      }
 
 -- ---- terms in another order
 

@@ -8,7 +8,7 @@ use Common.{ComeAsWell, choices_by, node_terms, HasDigits, Digits, all_terms, nu
 use Common.{root_path, *ℤ_assoc, AreAlike, IsShaped, all_both, div_self, Game, dvd_refl, steps_of}
 use Common.{ArePaid, Settles, is_paid, one-dvd, List, row_at, Ratio, Terms, arith, false, Path}
 use Common.{Term, ints, refl, true, ℕ, ◌*ℤ◌, ◌++◌, ◌+ℤ◌, map, pos, suc, sym, ◌*◌, ◌+◌, ◌-◌, ◌/◌}
-use Common.{◌<◌, ◌^◌, ◌∙◌, ◌∣◌, ◌∷◌, ◌≡◌, ◌≤◌, [], ap, ℤ, reached, zero-*ℤ, IsGame, add-*ℤ}
+use Common.{◌<◌, ◌^◌, ◌∙◌, ◌∣◌, ◌∷◌, ◌≡◌, ◌≤◌, [], ℤ, reached, zero-*ℤ, IsGame, add-*ℤ}
 use Common.{get_or, length}
 use Rattle.gf_fraction.proofs.Offered.{*ℤ_right_comm}
 use Rattle.gf_form.specs.inner.rows.Paying.{AreFitting, AreListed, IsOver, sizes_of}
@@ -91,11 +91,7 @@ module _ (rows : List (List Ratio)) (rs group : List Path) (size more : ℕ) (ol
   pub fitting_more : all_terms new ≡ all_terms old
       ++ record { head = record e.head { size = 0 }; row = e.row } ∷ []
       → AreFitting rows (rs ++ group) more new
-  fitting_more is =
-      let f : Term = record { head = record e.head { size = 0 }; row = e.row } in
-      with_it (λ k den steps choices. grind (arith, sum_append))
-      (rw (is, same.1) (all_both (IsOver old.den) (all_terms old) (f ∷ []) before.left_over
-      (over, tt)))
+  fitting_more is = grind (arith, with_it, sum_append, all_both)
 
   pub fitting_same : all_terms new ≡ all_terms old
       → ((k : ℕ) → number_at (suc k) e ≡ pos 0) → AreFitting rows (rs ++ group) more new
@@ -105,16 +101,7 @@ module _ (rows : List (List Ratio)) (rs group : List Path) (size more : ℕ) (ol
 
 pub first_fitting : (rows : List (List Ratio)) (terms : Terms) → all_terms terms ≡ []
     → IsShaped terms → AreFitting rows [] 0 terms
-first_fitting rows terms none shaped = record {
-  terms = [];
-  told = λ g are k less den steps choices exact. grind arith;
-  over = tt;
-  sizes = refl;
-  within = omega arith;
-  left_over = rw none tt;
-  sums = λ k den steps choices. rw none refl;
-  order = (shaped, (none_ordered terms none).0);
-}
+first_fitting rows terms none shaped = grind (arith, none_ordered)
 
 pub settled_as_well : (rows : List (List Ratio)) (rs : List Path) (size players : ℕ) (left : Terms)
     → 0 < left.den → left.den < 2 ^ 127 → left.players ≡ players → AreFitting rows rs size left
@@ -131,9 +118,7 @@ settled_as_well rows rs size players left above den_within same_players fit = re
       let num = base.payoff.num in
       let own = base.payoff.den in
       let same : whole *ℤ pos most ≡ left_whole *ℤ pos den =
-      ap (λ (z : ℤ). z *ℤ pos most) (sym (fit.sums k den steps choices))
-      ∙ sym (all_scaled (suc k) den most above steps choices (all_terms left) fit.left_over exact)
-      in record {
+      grind (arith, all_scaled) in record {
         payoff = base.payoff;
         fraction = base.fraction;
         is_value = base.is_value;

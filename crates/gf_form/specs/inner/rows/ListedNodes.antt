@@ -1,8 +1,9 @@
 -- The terms of nodes that choices can reach.
-use Rattle.std.specs.Prelude.{unsigned_abs, List, ◌++◌, ◌≡◌, suc, ◌<◌, ◌≤◌, ◌∷◌, [], ℕ, ℤ}
+use Rattle.std.specs.Prelude.{unsigned_abs, List, ◌≡◌, suc, ◌<◌, ◌≤◌, [], ℕ, ℤ}
 use Rattle.gf_fraction.specs.Ratio.{IsWithin, Ratio}
 use Rattle.gf_tree.specs.Game.{Game}
-use Rattle.gf_form.specs.inner.rows.TermLists.{AreExactAt, Term, all_terms, number_at, sum_of_terms}
+use Rattle.gf_form.specs.inner.rows.TermLists.{AreExactAt, AreInOrder, Term, all_terms}
+use Rattle.gf_form.specs.inner.rows.TermLists.{sum_of_terms}
 use Rattle.gf_form.specs.inner.values.Rows.{ArePaid}
 use Rattle.gf_form.specs.inner.rows.Shares.{AreExactShares, met_bounds, sum_of_shares}
 use Rattle.gf_form.specs.declared.rows.paths.Path.{Path}
@@ -21,15 +22,6 @@ abbrev pub IsShareAt : List (List Ratio) → List Path → Scaled → ℕ → �
 IsShareAt rows rs over k number = IsWithin number
     × (0 < over.den → (g : Game) → ArePaid g rows → HasShares g rs k over.den over.size number)
 
--- one more term, which has these demands, and says what these nodes add if it is known to fit
-pub record IsTermMore (rows : List (List Ratio)) (demands : ℕ) (rs : List Path) (old new : Terms)
-    : Type 0 where
-  pub term : Term
-  pub is : all_terms new ≡ all_terms old ++ term ∷ []
-  pub demands_are : term.head.demands ≡ demands
-  pub says : (k : ℕ) → k < old.players → 0 < term.head.den → (g : Game) → ArePaid g rows
-      → HasShares g rs k term.head.den term.head.size (number_at (suc k) term)
-
 -- over this denominator and at these choices, the terms come to the shares of a player, by their
 -- place from 0, in the nodes that the choices reach
 pub record Tells (g : Game) (k den : ℕ) (steps choices : List ℕ) (rs : List Path)
@@ -44,3 +36,8 @@ pub record Tells (g : Game) (k den : ℕ) (steps choices : List ℕ) (rs : List 
 abbrev pub AreTermsOf : Game → ℕ → List Path → List Term → Type 0
 AreTermsOf g players rs es = (k : ℕ) → k < players → (den : ℕ) (steps choices : List ℕ)
     → AreExactAt den steps choices es → Tells g k den steps choices rs es
+
+-- the terms, in order, say what these nodes add
+pub record TellNodes (rows : List (List Ratio)) (rs : List Path) (terms : Terms) : Type 0 where
+  pub told : (g : Game) → ArePaid g rows → AreTermsOf g terms.players rs (all_terms terms)
+  pub order : AreInOrder terms

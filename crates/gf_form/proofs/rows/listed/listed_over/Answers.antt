@@ -1,4 +1,4 @@
-use Rattle.gf_form.proofs.Common.{arith, length, refl, rows_of, take, take-length, ◌∙◌, ◌≡◌}
+use Rattle.gf_form.proofs.Common.{arith, length, rows_of, take, take-length, ◌∙◌, ◌≡◌}
 use Rattle.gf_form.proofs.lemmas.rows.FlatRows.{none_ordered}
 use Rattle.gf_form.proofs.lemmas.rows.ListedTerms.{all_alike, joined, rises}
 use Rattle.gf_form.proofs.lemmas.rows.PayingTerms.{first_fitting, settled_as_well}
@@ -18,25 +18,24 @@ loop-start-init c =
 pub push_fitting-requires-clause-alike : goal.push_fitting-requires-clause-alike
 push_fitting-requires-clause-alike c =
     let end = c.alike_end-end.ensures in
-    all_alike c.args.nodes.now c.requires c.loop-start.start c.alike_end-end.result
-    c.loop-start-test.true end.onward end.within end.alike _ refl
+    all_alike c.args.nodes.now c.requires c.loop-start.start c.alike_end-end.result end.onward
+    end.within end.alike
 
 pub loop-start-preserved : goal.loop-start-preserved
 loop-start-preserved c =
     let nodes = c.args.nodes.now in
     let start = c.loop-start.start in
     let stop = c.alike_end-end.result in
-    let test = c.loop-start-test.true in
     let end = c.alike_end-end.ensures in
     let more = c.in_ok-more.ensures in
     let inv = c.loop-start.invariant in
     record {
-      fitting = rw (joined nodes c.requires start stop test end.onward end.within end.alike _ refl)
+      fitting = rw (joined nodes c.requires start stop end.onward end.within end.alike)
           ((rw c.in-Some.is at more.fitting) (take start nodes) inv.fitting);
       next = λ d less e some. omega (
         arith,
         more.ends e some,
-        rises nodes c.requires start stop test end.onward end.within end.alike _ refl d less,
+        rises nodes c.requires start stop end.onward end.within end.alike d less,
       );
       players = more.alike.0 ∙ inv.players;
       den = more.alike.1 ∙ inv.den;
