@@ -103,16 +103,11 @@ impl<I: Inputs, P: Progress, W: Sink + LastError, E: Sink> Session<'_, '_, '_, '
                 Ok(good) => Ok(answer_status(good)),
                 Err(fault) => {
                     let failed = failed_run(fault, &source, self.output);
+                    let kept = source.bytes();
                     if fault == RunFault::Write {
-                        return Err(report_explained(
-                            alloc,
-                            &failed,
-                            name,
-                            source.bytes(),
-                            self.errors,
-                        ));
+                        return Err(report_explained(alloc, &failed, name, kept, self.errors));
                     }
-                    Ok(report_named(alloc, &failed, name, source.bytes(), self.errors))
+                    Ok(report_named(alloc, &failed, name, kept, self.errors))
                 }
             },
             Task::Rewrites(names) => match rewrite(alloc, self.inputs, &mut source, file, names) {

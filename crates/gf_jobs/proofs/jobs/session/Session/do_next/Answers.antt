@@ -21,7 +21,7 @@ returns-then-eq-clause-next g c = λ files is.
       rw c.in-Lines.is (opened (Err RunFault.Write) _ _ _ c.in-Ok.ensures.0 c.in-Ok.ensures.1
           (refl, refl, rw (c.name_of-name.ensures, same) at c.in-Err-run_line.ensures) (
             refl,
-            rw (c.name_of-name.ensures, c.bytes.ensures, c.failed_run-failed.ensures, same) at
+            rw (c.name_of-name.ensures, c.bytes-kept.ensures, c.failed_run-failed.ensures, same) at
                 c.report_explained.ensures,
           )),
     )
@@ -38,7 +38,7 @@ returns-in-Lines-clause-next g c = λ files is.
                 let is : c.in-Err-run_line.fault ≡ RunFault.Write = cc in absurd (other is),
             rw (
               c.name_of-name.ensures,
-              c.bytes-in-Err-run_line.ensures,
+              c.bytes-kept.ensures,
               c.failed_run-failed.ensures,
             ) at c.report_named-in-Err-run_line.ensures,
           )),
@@ -59,7 +59,7 @@ returns-in-Rewrites-clause-next g c = λ files is. (
   rw c.in-Rewrites.is (opened (Err c.in-Err-rewrite.failed.fault) _ _ _ c.in-Ok.ensures.0
       c.in-Ok.ensures.1 (refl, c.in-Err-rewrite.ensures) (
         λ line is same. absurd cc,
-        rw (c.name_of-name.ensures, c.bytes-in-Err-rewrite.ensures) at
+        rw (c.name_of-name.ensures, c.bytes.ensures) at
             c.report_named-in-Err-rewrite.ensures,
       )),
 )
