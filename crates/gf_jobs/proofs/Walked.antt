@@ -67,7 +67,12 @@ met_next : {I S : Type 0} (opener : Opener I S) (i : I) (repeats : Repeats) (nam
     (kept_of file fate ++ kept) (counts_as_game fate || some)
 met_next opener i repeats named file files inside below others kept old opened mid new fate inner outer
     some looks are_below are_others all any =
-    rw (all, any, ← append_assoc (kept_of file fate) below others, ← or_assoc (counts_as_game fate) inner outer)
+    rw (
+      all,
+      any,
+      ← append_assoc (kept_of file fate) below others,
+      ← or_assoc (counts_as_game fate) inner outer,
+    )
     (next _ _ _ _ _ _ _ _ _ _ _ _ _ looks are_below are_others)
 
 module _ {I S : Type 0} (opener : Opener I S) (i : I) (repeats : Repeats) (name : List ℕ) (seen : Seen)

@@ -133,8 +133,8 @@ repeats_of (Task.Duplicates names end) = Repeats.PassedOver
 repeats_of task = Repeats.Kept
 
 -- Which names a collection has, or why they are not known: the names that were given, or `-` if there
--- are none, unless memory ran out; or those in a list, which is opened once, if the bytes of this list are
--- known, unless memory ran out, the list could not be opened, or it is said not to be read.
+-- are none, unless memory ran out; or those in a list, which is opened once, if its bytes are known,
+-- unless memory ran out, the list could not be opened, or it is said not to be read.
 abbrev pub AreNames : {I S : Type 0} → Opener I S → Stream S → Paths
     → Result (List (List ℕ)) RunFault → I → I → Type 0
 AreNames opener reader Paths.Standard result i i' = (i' ≡ i)
@@ -229,15 +229,15 @@ module _ {I S W E : Type 0} (opener : Opener I S) (reader : Stream S) (writer : 
       → World I (W × List HashedFile) E → World I (W × List HashedFile) E → Type 0
   DoesNext task ends file = Over opener explain (RunsNext task file) (EndsNext ends task file) file
 
-  -- after all files: the groups of those that are the same game were written, unless the writer failed or
-  -- memory ran out, which was reported; for another task nothing is done
+  -- after all files: the groups of those that are the same game were written, unless the writer
+  -- failed or memory ran out, which was reported; for another task nothing is done
   abbrev pub Closes : Task → ℕ → World I (W × List HashedFile) E → World I (W × List HashedFile) E
       → Type 0
   Closes (Task.Duplicates names end) status a b = (result : Result Bool RunFault)
       × (b.inputs ≡ a.inputs) × Writes writer (λ apart text.
       (apart ≡ not (list_any has_two (named_groups a.output.1)))
-      × (text ≡ groups_text end (filter has_two (named_groups a.output.1)))) (λ why. why ≡ RunFault.Memory)
-      result a.output.0 b.output.0
+      × (text ≡ groups_text end (filter has_two (named_groups a.output.1))))
+      (λ why. why ≡ RunFault.Memory) result a.output.0 b.output.0
       × Ends (IsReported errors []) answer_status result (kept_at_first explain) status
       a.errors b.errors
   Closes task status a b = (status ≡ 0) × (b ≡ a)
